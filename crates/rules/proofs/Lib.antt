@@ -1,0 +1,2 @@
+-- The ledger's claim.
+pub mod Ledger

@@ -1,0 +1,75 @@
+-- The starred cases of document 01's ledger, as one table; proofs/Ledger.antt has the one claim about it. Assumes nothing.
+use mathlib.Core.List.{List, [], _∷_}
+use Prim.Native.Nat.{ℕ}
+use lib.ListN.{length}
+use Rattle.rules.specs.Rules.{Range, Book, total, Call, Free, Allocate, Reserve, step}
+
+-- a line of the script: a call, or `l`
+pub data Line : Type 0 where
+  call : Call → Line
+  l : Line
+
+-- what a line prints: number and address; count and total, and then each range
+pub record Case : Type 0 where
+  pub lines : List Line
+  pub prints : List (List ℕ)
+
+unfoldable pub bounds : List Range → List ℕ
+bounds [] = []
+bounds (r ∷ rs) = r .start ∷ r .last ∷ bounds rs
+
+-- what the lines print, with n records
+unfoldable pub play : ℕ → Book → List Line → List (List ℕ)
+play n b [] = []
+play n b (call c ∷ ls) = (step n c b .number ∷ step n c b .address ∷ []) ∷ play n (step n c b .book) ls
+play n b (l ∷ ls) = (length (b .chain) ∷ total b ∷ bounds (b .chain)) ∷ play n b ls
+
+abbrev f : ℕ → ℕ → Line
+f s z = call (Free s z)
+
+abbrev a : ℕ → ℕ → Line
+a z o = call (Allocate z o)
+
+abbrev r : ℕ → ℕ → ℕ → Line
+r s z o = call (Reserve s z o)
+
+abbrev ok : List ℕ
+ok = 0 ∷ 0 ∷ []
+
+abbrev at : ℕ → List ℕ
+at x = 0 ∷ x ∷ []
+
+abbrev nay : ℕ → List ℕ
+nay k = k ∷ 0 ∷ []
+
+abbrev case : List Line → List (List ℕ) → Case
+case ls ps = record { lines = ls; prints = ps }
+
+unfoldable pub table : List Case
+table =
+    case (f 65536 65536 ∷ a 4096 0 ∷ a 8192 14 ∷ f 65536 4096 ∷ f 81920 4096 ∷ f 86016 4096 ∷ a 65536 0 ∷ r 65536 65536 0 ∷ f 131071 2 ∷ r 70000 100 12 ∷ l ∷ [])
+    (ok ∷ at 65536 ∷ at 81920 ∷ ok ∷ ok ∷ ok ∷ nay 3 ∷ nay 1 ∷ nay 4 ∷ ok ∷ (2 ∷ 61440 ∷ 65536 ∷ 69631 ∷ 73728 ∷ 131071 ∷ []) ∷ [])
+    ∷ case (f 16384 4096 ∷ f 4096 4096 ∷ a 4096 0 ∷ []) (ok ∷ ok ∷ at 4096 ∷ [])
+    ∷ case (f 4096 4096 ∷ f 16384 4096 ∷ a 4096 0 ∷ []) (ok ∷ ok ∷ at 16384 ∷ [])
+    ∷ case (f 4096 4096 ∷ f 16384 16384 ∷ a 4096 13 ∷ []) (ok ∷ ok ∷ at 16384 ∷ [])
+    ∷ case (f 0 8192 ∷ a 4096 63 ∷ []) (ok ∷ at 0 ∷ [])
+    ∷ case (a 1 0 ∷ []) (nay 3 ∷ [])
+    ∷ case (a 1 64 ∷ []) (nay 4 ∷ [])
+    ∷ case (r 0 1 0 ∷ []) (nay 3 ∷ [])
+    ∷ case (f 5 1 ∷ []) (ok ∷ [])
+    ∷ case (f 5 0 ∷ []) (nay 4 ∷ [])
+    ∷ case (f 9223372036854771712 4096 ∷ []) (ok ∷ [])
+    ∷ case (f 9223372036854771712 4097 ∷ []) (nay 4 ∷ [])
+    ∷ []
+
+-- Beside the ledger. After a split into equal halves the high piece, placed last, comes first. A rule that places it before the low one passes every case above.
+unfoldable pub halves : Case
+halves = case (f 0 12288 ∷ r 4096 4096 0 ∷ a 4096 0 ∷ []) (ok ∷ ok ∷ at 8192 ∷ [])
+
+-- With a single record: a take that needs a second one is refused, and the range stays as it was.
+unfoldable pub one-record : Case
+one-record = case (f 1024 16384 ∷ a 512 12 ∷ r 4096 512 0 ∷ f 65536 1 ∷ l ∷ []) (ok ∷ nay 1 ∷ nay 1 ∷ nay 1 ∷ (1 ∷ 16384 ∷ 1024 ∷ 17407 ∷ []) ∷ [])
+
+-- An aligned request whose tail exactly ends the range is served; then one that leaves a single byte.
+unfoldable pub exact-tail : Case
+exact-tail = case (f 12288 8192 ∷ a 4096 14 ∷ a 4095 0 ∷ l ∷ []) (ok ∷ at 16384 ∷ at 12288 ∷ (1 ∷ 1 ∷ 16383 ∷ 16383 ∷ []) ∷ [])

@@ -1,0 +1,4 @@
+-- What a reader must believe: the rules, what a sound book is, and the ledger of examples.
+pub mod Rules
+pub mod Sound
+pub mod Ledger

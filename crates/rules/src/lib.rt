@@ -1,0 +1,1 @@
+// The rules of document 01. Definitions in specs/, theorems in proofs/; no code.
