@@ -6,7 +6,7 @@ use mathlib.Core.List.{List, [], _∷_, _++_, map}
 use Prim.Native.Nat.{ℕ, zero, suc, _+_, _-_, _*_, _^_, _≤_, _<_}
 use native.Mathlib.Omega.{arith}
 use lib.Dec.{T, leb, ltb, eqb, leb→le, nleb→lt, le→leb, lt→ltb, ltb→lt, nltb→le, eqb→eq, eqb-refl, not-T}
-use Rattle.rules.specs.Rules.{Range, size, Book, empty, before, without, span, listing, freeAt, full, Call, run, least, listNumber, tally, ofList, lists}
+use Rattle.rules.specs.Rules.{sizeLists, Range, size, Book, empty, before, without, span, listing, freeAt, full, Call, run, least, listNumber, tally, ofList, lists}
 use Rattle.rules.specs.Sound.{In, Pairwise}
 use Rattle.laws.proofs.Lists.{if, T-no, T-or-not, T-true, T-false, neq, in-without→, in-without←, pairwise-without}
 use Rattle.rules.specs.Sound.{Other, Smaller, Sound}
@@ -120,13 +120,13 @@ least-mono (suc k) j y z h = if (leb y (4096 * 2 ^ j)) (λ x. x ≤ least (suc k
 abbrev pub num : Range → ℕ
 num r = listNumber (size r)
 
-num-mono : (r q : Range) → size r ≤ size q → num r ≤ num q
+pub list-number-mono : (y z : ℕ) → y ≤ z → listNumber y ≤ listNumber z
 unfolding listNumber
-num-mono r q h = least-mono 11 0 (size r) (size q) h
+list-number-mono y z h = least-mono (sizeLists - 1) 0 y z h
 
-pub num-lt : (r : Range) → num r < 12
+pub num-lt : (r : Range) → num r < sizeLists
 unfolding listNumber
-num-lt r = omega (arith, least-le 11 0 (size r))
+num-lt r = omega (arith, least-le (sizeLists - 1) 0 (size r))
 
 -- a range whose list is not among these changes nothing
 not-among : (j k : ℕ) (r : Range) (l : List Range) → num r < j → lists j k (r ∷ l) ≡ lists j k l
@@ -147,10 +147,10 @@ comes-first j (suc k) r l h g f = if (eqb (num r) j) (λ m. m ++ lists (suc j) k
     (λ t. ap (λ (m : List Range). r ∷ (ofList j l ++ m)) (not-among (suc j) k r l (omega (arith, eqb→eq (num r) j t))))
     (λ t. let d = neq (num r) j t in rw (no-such j l (λ q i. omega (arith, f q i))) (comes-first (suc j) k r l (omega arith) (omega arith) f))
 
-pub twelve : (l : List Range) → Pairwise Smaller l → lists 0 12 l ≡ l
+pub twelve : (l : List Range) → Pairwise Smaller l → lists 0 sizeLists l ≡ l
 unfolding lists ofList
 twelve [] h = refl
-twelve (r ∷ l) h = comes-first 0 12 r l (omega arith) (omega (arith, num-lt r)) (λ q i. num-mono r q (h .0 q i)) ∙ ap (λ (m : List Range). r ∷ m) (twelve l (h .1))
+twelve (r ∷ l) h = comes-first 0 sizeLists r l (omega arith) (omega (arith, num-lt r)) (λ q i. list-number-mono (size r) (size q) (h .0 q i)) ∙ ap (λ (m : List Range). r ∷ m) (twelve l (h .1))
 
 -- ---- one list of the twelve: what a placing and a removal do to it
 
@@ -158,6 +158,21 @@ pub ofList-in : (k : ℕ) (l : List Range) (q : Range) → In q (ofList k l) →
 unfolding ofList
 ofList-in k [] q = λ i. i
 ofList-in k (r ∷ l) q = if (eqb (num r) k) (λ m. In q m → In q (r ∷ l)) (λ t i. elim i [ inl e ↦ inl e | inr j ↦ inr (ofList-in k l q j) ]) (λ t i. inr (ofList-in k l q i))
+
+pub ofList-number : (k : ℕ) (l : List Range) (q : Range) → In q (ofList k l) → num q ≡ k
+unfolding ofList
+ofList-number k [] q = λ m. absurd m
+ofList-number k (r ∷ l) q = if (eqb (num r) k) (λ m. In q m → num q ≡ k) (λ t i. elim i [ inl e ↦ ap num e ∙ eqb→eq (num r) k t | inr j ↦ ofList-number k l q j ]) (λ t i. ofList-number k l q i)
+
+pub in-ofList : (q : Range) (l : List Range) → In q l → In q (ofList (num q) l)
+unfolding ofList
+in-ofList q (p ∷ l) (inl e) = if (eqb (num p) (num q)) (λ m. In q m) (λ t. inl e) (λ t. absurd (neq (num p) (num q) t (ap num (sym e))))
+in-ofList q (p ∷ l) (inr i) = if (eqb (num p) (num q)) (λ m. In q m) (λ t. inr (in-ofList q l i)) (λ t. in-ofList q l i)
+
+pub ofList-pairwise : (R : Range → Range → Type 0) (k : ℕ) (l : List Range) → Pairwise R l → Pairwise R (ofList k l)
+unfolding ofList
+ofList-pairwise R k [] p = tt
+ofList-pairwise R k (r ∷ l) p = if (eqb (num r) k) (λ m. Pairwise R m) (λ t. (λ q m. p .0 q (ofList-in k l q m), ofList-pairwise R k l (p .1))) (λ t. ofList-pairwise R k l (p .1))
 
 before-first : (key : Range → ℕ) (r : Range) (l : List Range) → ((q : Range) → In q l → key r ≤ key q) → before key r l ≡ r ∷ l
 unfolding before

@@ -1,0 +1,19 @@
+use native.Mathlib.Omega.{arith}
+use Rattle.align.proofs.Rounding.{shifted}
+use borrow.Author.Needs.{needs}
+use Rattle.align.proofs.align_down.Statement.{statement}
+use Rattle.align.proofs.align_down.Tie as tie
+use Rattle.align.proofs.align_down.Reads as reads
+use Rattle.align.proofs.align_down.Lts as lts
+
+shr-result : tie.Need-shr-result
+shr-result c = search needs
+
+shl-result : tie.Need-shl-result
+shl-result c = search needs
+
+returns : tie.Need-returns
+returns c = shifted _ _ (omega arith)
+
+pub align-down-spec : {M : Type 1} → statement M
+align-down-spec = tie.close (tie.spec shr-result shl-result returns)

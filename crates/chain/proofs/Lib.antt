@@ -1,0 +1,2 @@
+-- Laws of the chain.
+pub mod Chain

@@ -1,0 +1,26 @@
+use lib.Dec.{lit≤}
+use Rattle.lists.specs.Threads.{alone, only}
+use Rattle.state.specs.Shown.{pool, numbers}
+use Rattle.chain.proofs.Chain.{unchained}
+use borrow.Author.Needs.{needs}
+use Rattle.chain.proofs.unchain.Statement.{statement}
+use Rattle.chain.proofs.unchain.Tie as tie
+use Rattle.chain.proofs.unchain.Reads as reads
+use Rattle.chain.proofs.unchain.Lts as lts
+
+link-of-requires : tie.Need-link-of-requires
+link-of-requires c κs = search needs
+
+choose-requires : tie.Need-choose-requires
+choose-requires c κs = search needs
+
+unlink-requires : tie.Need-unlink-requires
+unlink-requires c κs = search needs
+
+returns : tie.Need-returns
+returns c l t h =
+    unchained pool (lit≤ tt) l _ _ _ t _ h _ _ _ _ (c .before .before .before .before .link-of .ensures) (c .before .before .before .choose .ensures)
+    (c .unlink .ensures alone (only (numbers l)) (t .threads) h)
+
+pub unchain-spec : {M : Type 1} → statement M
+unchain-spec = tie.close (tie.spec link-of-requires choose-requires unlink-requires returns)

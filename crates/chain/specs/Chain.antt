@@ -1,0 +1,17 @@
+-- What the steps of the chain ask for and answer. Assumes nothing.
+use Prim.Native.Nat.{ℕ, _<_}
+use mathlib.Core.Logic.{_≢_}
+use mathlib.Core.List.{List, _++_}
+use mathlib.Core.Path.{_≡_}
+use Rattle.lists.specs.Links.{none, head, lastFrom}
+use Rattle.rules.specs.Rules.{Range}
+use Rattle.rules.specs.Sound.{In}
+use Rattle.state.specs.Shown.{numbers, Chained}
+
+-- the range q may go into the chain between b and a
+pub record Enters (n : ℕ) (first : ℕ) (prev next : List ℕ) (b a : ℕ) (q : Range) (l r : List Range) : Type 0 where
+  pub chained : Chained n (l ++ r) first prev next
+  pub below : q .number < n
+  pub loose : (p : Range) → In p (l ++ r) → q .number ≢ p .number
+  pub low : b ≡ lastFrom none (numbers l)
+  pub high : a ≡ head (numbers r)

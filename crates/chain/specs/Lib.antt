@@ -1,0 +1,2 @@
+-- What the contracts of the chain cite.
+pub mod Chain

@@ -1,0 +1,3 @@
+-- Laws of the shelf.
+pub mod Shelf
+pub mod Fits

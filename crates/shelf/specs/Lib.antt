@@ -1,0 +1,2 @@
+-- What the contracts of the shelf cite.
+pub mod Shelf

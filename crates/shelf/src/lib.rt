@@ -1,0 +1,179 @@
+// The shelf: the free ranges by size, in twelve lists.
+use align::align_address_and_available_size;
+use align::size_to_page_order;
+use links::Gap;
+use links::choose;
+use links::link_between;
+use links::link_of;
+use links::unlink;
+use state::Address;
+use state::LISTS;
+use state::NONE;
+use state::POOL;
+use state::RecordIndex;
+ghost use mathlib.Core.Path.{_≡_};
+ghost use Prim.Native.Nat.{ℕ, _<_, _≤_};
+ghost use lib.ListN.{set};
+ghost use mathlib.Core.List.{List};
+ghost use Rattle.lists.specs.Links.{head};
+ghost use Rattle.rules.specs.Rules.{Range, find, fits, range, size, without, before};
+ghost use Rattle.rules.specs.Sound.{Good};
+ghost use Rattle.state.specs.Shown.{pool, numbers, at, Runs, Gapped, Shelved};
+ghost use Rattle.shelf.specs.Shelf.{Removes, Places, Resizes, fitOf};
+
+// The number of bytes of record i.
+pub fn get_size(start: &[u64; POOL], end: &[u64; POOL], i: RecordIndex) -> u64
+    requires { ⌜ Good pool (at (now start) (now end) (i .0)) ⌝ }
+    ensures { λ r. ⌜ r ≡ size (at (now (start .entry)) (now (end .entry)) (i .0)) ⌝ }
+{
+    let n = i.0 as usize;
+    end[n] - start[n] + 1
+}
+
+// The place in a list, from its first record, before the first range of at least that size.
+pub fn find_gap(
+    start: &[u64; POOL],
+    end: &[u64; POOL],
+    next: &[u16; POOL],
+    first: RecordIndex,
+    s: u64,
+) -> Gap
+    requires { ⌜ ((l : List Range) × Runs pool l (now start) (now end) (now next) × (first .0 ≡ head (numbers l))) ⌝ }
+    ensures { λ r. ⌜ ((l : List Range) → Runs pool l (now (start .entry)) (now (end .entry)) (now (next .entry)) → first .0 ≡ head (numbers l) → Gapped size l s (r .before .0) (r .after .0)) ⌝ }
+{
+    let mut before = RecordIndex(NONE);
+    let mut cur = first;
+    while cur.0 != NONE {
+        let z = get_size(start, end, cur);
+        if s <= z {
+            return Gap {
+                before: before,
+                after: cur,
+            };
+        }
+        before = cur;
+        cur = link_of(next, cur);
+    }
+    Gap {
+        before: before,
+        after: cur,
+    }
+}
+
+// Record i goes out of the shelf.
+pub fn unchain_entry_from_free_list(
+    start: &[u64; POOL],
+    end: &[u64; POOL],
+    prev: &mut [u16; POOL],
+    next: &mut [u16; POOL],
+    heads: &mut [u16; LISTS],
+    i: RecordIndex,
+)
+    requires { ⌜ ((l : List Range) × Removes pool (now start) (now end) (now prev) (now next) (now heads) (i .0) l) ⌝ }
+    ensures { λ _. ⌜ ((l : List Range) → Removes pool (now (start .entry)) (now (end .entry)) (now (prev .entry)) (now (next .entry)) (now (heads .entry)) (i .0) l → Shelved pool (without (i .0) l) (now (start .entry)) (now (end .entry)) (now (prev .exit)) (now (next .exit)) (now (heads .exit))) ⌝ }
+{
+    let k = size_to_page_order(get_size(start, end, i));
+    let kn = k.0 as usize;
+    let head = RecordIndex(heads[kn]);
+    let a = link_of(next, i);
+    heads[kn] = choose(head, i, a, head).0;
+    unlink(prev, next, i);
+}
+
+// Record i goes into the shelf: in the list of its size, before the first of at least its size.
+pub fn chain_entry_to_free_list(
+    start: &[u64; POOL],
+    end: &[u64; POOL],
+    prev: &mut [u16; POOL],
+    next: &mut [u16; POOL],
+    heads: &mut [u16; LISTS],
+    i: RecordIndex,
+)
+    requires { ⌜ ((l : List Range) × Places pool (now start) (now end) (now prev) (now next) (now heads) (i .0) l) ⌝ }
+    ensures { λ _. ⌜ ((l : List Range) → Places pool (now (start .entry)) (now (end .entry)) (now (prev .entry)) (now (next .entry)) (now (heads .entry)) (i .0) l → Shelved pool (before size (at (now (start .entry)) (now (end .entry)) (i .0)) l) (now (start .entry)) (now (end .entry)) (now (prev .exit)) (now (next .exit)) (now (heads .exit))) ⌝ }
+{
+    let z = get_size(start, end, i);
+    let k = size_to_page_order(z);
+    let kn = k.0 as usize;
+    let head = RecordIndex(heads[kn]);
+    let gap = find_gap(start, end, next, head, z);
+    let b = gap.before;
+    let a = gap.after;
+    heads[kn] = choose(b, RecordIndex(NONE), i, head).0;
+    link_between(prev, next, b, i, a);
+}
+
+// Record i, which is on the shelf, gets another range, and its place by size.
+pub fn resize(
+    start: &mut [u64; POOL],
+    end: &mut [u64; POOL],
+    prev: &mut [u16; POOL],
+    next: &mut [u16; POOL],
+    heads: &mut [u16; LISTS],
+    i: RecordIndex,
+    s: Address,
+    e: Address,
+)
+    requires { ⌜ ((l : List Range) × Resizes pool (now start) (now end) (now prev) (now next) (now heads) (range (i .0) (s .0) (e .0)) l) ⌝ }
+    ensures { λ _. ⌜ (now (start .exit) ≡ set (now (start .entry)) (i .0) (s .0)) × (now (end .exit) ≡ set (now (end .entry)) (i .0) (e .0)) ⌝ }
+    ensures { λ _. ⌜ ((l : List Range) → Resizes pool (now (start .entry)) (now (end .entry)) (now (prev .entry)) (now (next .entry)) (now (heads .entry)) (range (i .0) (s .0) (e .0)) l → Shelved pool (before size (range (i .0) (s .0) (e .0)) (without (i .0) l)) (now (start .exit)) (now (end .exit)) (now (prev .exit)) (now (next .exit)) (now (heads .exit))) ⌝ }
+{
+    unchain_entry_from_free_list(start, end, prev, next, heads, i);
+    let n = i.0 as usize;
+    start[n] = s.0;
+    end[n] = e.0;
+    chain_entry_to_free_list(start, end, prev, next, heads, i);
+}
+
+// Whether `size` bytes remain in record i from its start rounded up.
+pub fn fits_at(
+    start: &[u64; POOL],
+    end: &[u64; POOL],
+    i: RecordIndex,
+    size: u64,
+    order: u64,
+) -> bool
+    requires { ⌜ Good pool (at (now start) (now end) (i .0)) ⌝ }
+    requires { ⌜ (0 < size) × (order ≤ 63) ⌝ }
+    ensures { λ k. ⌜ k ≡ fits size order (at (now (start .entry)) (now (end .entry)) (i .0)) ⌝ }
+{
+    let whole = get_size(start, end, i);
+    let n = i.0 as usize;
+    let left = align_address_and_available_size(Address(start[n]), whole, order);
+    size <= left.size
+}
+
+pub enum Fit {
+    At(RecordIndex),
+    Nothing,
+}
+
+// The first range of the shelf that fits. The lists below that of `size` hold smaller ranges only.
+pub fn find_fit(
+    start: &[u64; POOL],
+    end: &[u64; POOL],
+    next: &[u16; POOL],
+    heads: &[u16; LISTS],
+    size: u64,
+    order: u64,
+) -> Fit
+    requires { ⌜ ((l : List Range) × (prev : List ℕ) × Shelved pool l (now start) (now end) prev (now next) (now heads)) ⌝ }
+    requires { ⌜ (0 < size) × (order ≤ 63) ⌝ }
+    ensures { λ k. ⌜ ((l : List Range) (prev : List ℕ) → Shelved pool l (now (start .entry)) (now (end .entry)) prev (now (next .entry)) (now (heads .entry)) → k ≡ fitOf (find (fits size order) l)) ⌝ }
+{
+    let own = size_to_page_order(size);
+    let mut hit = Fit::Nothing;
+    let mut k = own.0 as usize;
+    'search: while k < LISTS {
+        let mut cur = RecordIndex(heads[k]);
+        while cur.0 != NONE {
+            if fits_at(start, end, cur, size, order) {
+                hit = Fit::At(cur);
+                break 'search;
+            }
+            cur = link_of(next, cur);
+        }
+        k = k + 1;
+    }
+    hit
+}

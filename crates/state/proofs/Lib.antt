@@ -1,0 +1,3 @@
+-- Laws of what the arrays show.
+pub mod Walks
+pub mod States

@@ -1,0 +1,29 @@
+// The allocator's state, and the kinds of number in it.
+
+// The number of records, and of size lists.
+pub const POOL: usize = 64;
+
+pub const LISTS: usize = 12;
+
+// What a link holds where there is none.
+pub const NONE: u16 = 65535;
+
+pub struct RecordIndex(pub u16);
+
+pub struct ListIndex(pub u8);
+
+pub struct Address(pub u64);
+
+// A record's number is its index. `previous` and `next` link the free ranges by address, `list_prev` and `list_next` those of one size list.
+pub struct MemoryAllocator {
+    pub free_size: u64,
+    pub first_entry: RecordIndex,
+    pub free_list: [u16; LISTS],
+    pub start: [u64; POOL],
+    pub end: [u64; POOL],
+    pub enabled: [bool; POOL],
+    pub previous: [u16; POOL],
+    pub next: [u16; POOL],
+    pub list_prev: [u16; POOL],
+    pub list_next: [u16; POOL],
+}

@@ -1,0 +1,270 @@
+-- Steps of a book, and what the arrays show after each.
+use Prim.Native.Nat.{ℕ, zero, suc, _+_, _-_, _<_, _≤_}
+use mathlib.Core.Bool.{Bool, true, false, cond}
+use mathlib.Core.Logic.{_≢_, _⊎_, inl, inr, ⊎-elim}
+use mathlib.Core.List.{List, [], _∷_, _++_}
+use mathlib.Core.Path.{_≡_, refl, sym, ap, _∙_, subst}
+use lib.ListN.{length, getD, set, length-set}
+use lib.Seq.{getD-set-same, getD-set-other, append-snoc}
+use lib.Dec.{eqb, leb, eqb→eq, T}
+use native.Mathlib.Omega.{arith}
+use native.Mathlib.Nat.{add-assoc, add-comm}
+use borrow.Author.Tests.{eq-eqb, ne-eqb}
+use Rattle.lists.specs.Links.{none, head, lastFrom, after, has, Listed}
+use Rattle.lists.specs.Threads.{Threads, alone, only}
+use Rattle.lists.proofs.Laws.{same?, after-mid, last-snoc}
+use Rattle.rules.specs.Rules.{Range, range, startOf, size, Book, sum, total, before, without, put, remove}
+use Rattle.rules.specs.Sound.{In, Pairwise}
+use Rattle.laws.proofs.Lists.{if, in-before→, in-before←, in-without→, in-without←}
+use Rattle.rules.specs.Sound.{Sound, Good, Smaller, Other, Ahead, Apart}
+use Rattle.laws.proofs.Kept.{put-sound, remove-sound, in-put→, in-put←, in-remove→, in-remove←, others-apart, same-number}
+use Rattle.state.specs.Shown.{numbers, at, Stand, Stops, Walked, Gapped, Shelved, Chained, Marked, Kept, Shape}
+use Rattle.shelf.specs.Shelf.{Removes, Places, Resizes}
+use Rattle.chain.specs.Chain.{Enters}
+use Rattle.steps.specs.Steps.{Replaces, Inserts, Drops}
+use Rattle.state.proofs.Walks.{numbers-append, in-left, in-right, in-either, in-has, has-in, without-fresh, fresh-numbers, before-at}
+use Rattle.shelf.proofs.Shelf.{range-at, range-other, reslot}
+
+-- ---- a member parts a list
+
+pub part : (r : Range) (c : List Range) → In r c → (l : List Range) × (u : List Range) × (c ≡ l ++ r ∷ u)
+part r (q ∷ c) (inl e) = ([], c, ap (λ (x : Range). x ∷ c) (sym e))
+part r (q ∷ c) (inr i) = let w = part r c i in (q ∷ w .0, w .1, ap (λ (k : List Range). q ∷ k) (w .2))
+
+pub pair-low : (R : Range → Range → Type 0) (l : List Range) (r : Range) (u : List Range) → Pairwise R (l ++ r ∷ u) → (p : Range) → In p l → R p r
+pair-low R (q ∷ l) r u h p (inl e) = subst (λ (x : Range). R x r) (sym e) (h .0 r (in-right r l (r ∷ u) (inl refl)))
+pair-low R (q ∷ l) r u h p (inr i) = pair-low R l r u (h .1) p i
+
+pub pair-high : (R : Range → Range → Type 0) (l : List Range) (r : Range) (u : List Range) → Pairwise R (l ++ r ∷ u) → (p : Range) → In p u → R r p
+pair-high R [] r u h p i = h .0 p i
+pair-high R (q ∷ l) r u h p i = pair-high R l r u (h .1) p i
+
+pub without-part : (l : List Range) (r : Range) (u : List Range) → Pairwise Other (l ++ r ∷ u) → without (r .number) (l ++ r ∷ u) ≡ l ++ u
+unfolding without
+without-part [] r u h = rw (eq-eqb (r .number) (r .number) refl) (without-fresh (r .number) u (fresh-numbers (r .number) u (h .0)))
+without-part (q ∷ l) r u h =
+    rw (ne-eqb (r .number) (q .number) (λ e. h .0 r (in-right r l (r ∷ u) (inl refl)) (sym e)))
+    (ap (λ (k : List Range). q ∷ k) (without-part l r u (h .1)))
+
+-- ---- totals
+
+pub sum-before : (key : Range → ℕ) (q : Range) (c : List Range) → sum (before key q c) ≡ size q + sum c
+unfolding sum before
+sum-before key q [] = refl
+sum-before key q (p ∷ c) = if (leb (key q) (key p)) (λ m. sum m ≡ size q + (size p + sum c)) (λ t. refl) (λ t. let e = sum-before key q c in omega arith)
+
+pub sum-part : (l : List Range) (r : Range) (u : List Range) → sum (l ++ r ∷ u) ≡ size r + sum (l ++ u)
+unfolding sum
+sum-part [] r u = refl
+sum-part (q ∷ l) r u = let e = sum-part l r u in omega arith
+
+pub total-put : (q : Range) (b : Book) → total (put q b) ≡ size q + total b
+unfolding put
+total-put q b = sum-before startOf q (b .chain)
+
+pub total-remove : (n : ℕ) (r : Range) (b : Book) → Sound n b → In r (b .chain) → total b ≡ size r + total (remove r b)
+unfolding remove
+total-remove n r b s m =
+    let w = part r (b .chain) m in
+    let e = w .2 in
+    let o : Pairwise Other (w .0 ++ r ∷ w .1) = rw e at (s .once) in
+    ap sum e ∙ sum-part (w .0) r (w .1) ∙ ap (λ (k : List Range). size r + sum k) (sym (ap (without (r .number)) e ∙ without-part (w .0) r (w .1) o))
+
+-- ---- what depends on the numbers alone
+
+marked-same : (n : ℕ) (c d : List Range) (en : List Bool) → numbers c ≡ numbers d → Marked n c en → Marked n d en
+marked-same n c d en e m =
+    record {
+      enabled-length = m .enabled-length;
+      on = λ r i. let w = has-in (r .number) c (rw e (in-has r d i)) in rw (w .2) (m .on (w .0) (w .1));
+      off = λ i b f. m .off i b (λ r j q. let w = has-in (r .number) d (rw e at (in-has r c j)) in f (w .0) (w .1) (q ∙ w .2));
+    }
+
+chained-same : (n : ℕ) (c d : List Range) (first : ℕ) (prev next : List ℕ) → numbers c ≡ numbers d → Chained n c first prev next → Chained n d first prev next
+chained-same n c d first prev next e t = record { threads = rw e at (t .threads); leads = t .leads ∙ ap head e }
+
+-- ---- r replaced by q, where it stands
+
+module _ (n : ℕ) (b : Book) (r q : Range) (s : Sound n b) (k : Replaces n b r q) where
+  abbrev w : (l : List Range) × (u : List Range) × (b .chain ≡ l ++ r ∷ u)
+  w = part r (b .chain) (k .member)
+
+  cut-chain : without (r .number) (b .chain) ≡ w .0 ++ w .1
+  cut-chain = let o : Pairwise Other (w .0 ++ r ∷ w .1) = rw (w .2) at (s .once) in ap (without (r .number)) (w .2) ∙ without-part (w .0) r (w .1) o
+
+  member : (p : Range) → In p (w .0 ++ r ∷ w .1) → In p (b .chain)
+  member p i = rw (w .2) i
+
+  -- r's place
+  pub replace-chain : before startOf q (without (r .number) (b .chain)) ≡ w .0 ++ q ∷ w .1
+  replace-chain =
+      let a : Pairwise Ahead (w .0 ++ r ∷ w .1) = rw (w .2) at (s .apart) in
+      ap (before startOf q) cut-chain
+      ∙ before-at startOf q (w .0) (w .1)
+      (λ p i. let g = s .good p (member p (in-left p (w .0) (r ∷ w .1) i)) .proper in
+      let h = k .low p (member p (in-left p (w .0) (r ∷ w .1) i)) (pair-low Ahead (w .0) r (w .1) a p i) in omega arith)
+      (stops (w .1) (λ p i. k .high p (member p (in-right p (w .0) (r ∷ w .1) (inr i))) (pair-high Ahead (w .0) r (w .1) a p i)))
+    where
+      stops : (u : List Range) → ((p : Range) → In p u → Ahead q p) → Stops startOf (startOf q) u
+      stops [] f = tt
+      stops (p ∷ u) f = let h = f p (inl refl) in let g = k .good .proper in omega arith
+
+  replace-numbers : numbers (b .chain) ≡ numbers (before startOf q (without (r .number) (b .chain)))
+  replace-numbers =
+      ap numbers (w .2) ∙ numbers-append (w .0) (r ∷ w .1)
+      ∙ ap (λ (i : ℕ). numbers (w .0) ++ i ∷ numbers (w .1)) (k .number)
+      ∙ sym (ap numbers replace-chain ∙ numbers-append (w .0) (q ∷ w .1))
+
+  pub replace-sound : Sound n (put q (remove r b))
+  replace-sound = put-sound n (remove r b) q (remove-sound n b r s) (k .good)
+      (λ p m. let v = in-remove→ r b p m in
+      (λ e. v .1 (k .number ∙ e), elim (others-apart n b r p s (k .member) (v .0) (v .1)) [ inl h ↦ inl (k .low p (v .0) h) | inr h ↦ inr (k .high p (v .0) h) ]))
+
+  pub replaced : (first : ℕ) (heads start end : List ℕ) (en : List Bool) (prev next lprev lnext heads′ lprev′ lnext′ : List ℕ)
+      → Shape n b first heads start end en prev next lprev lnext
+      → Shelved n (before size q (without (q .number) (b .shelf))) (set start (q .number) (q .start)) (set end (q .number) (q .last)) lprev′ lnext′ heads′
+      → Shape n (put q (remove r b)) first heads′ (set start (q .number) (q .start)) (set end (q .number) (q .last)) en prev next lprev′ lnext′
+  unfolding put remove
+  replaced first heads start end en prev next lprev lnext heads′ lprev′ lnext′ t v =
+      let i = q .number in
+      record {
+        sound = replace-sound;
+        kept = record {
+          marked = marked-same n (b .chain) _ en replace-numbers (t .kept .marked);
+          start-length = length-set start i (q .start) ∙ t .kept .start-length;
+          end-length = length-set end i (q .last) ∙ t .kept .end-length;
+          stand = λ p m. elim (in-before→ startOf q (without (r .number) (b .chain)) p m) [
+            | inl e ↦ rw e (range-at n start end i (q .start) (q .last) (t .kept .start-length) (t .kept .end-length) (k .good .known))
+            | inr j ↦ let z = in-without→ (r .number) (b .chain) p j in
+                range-other start end i (q .start) (q .last) (p .number) (λ e. z .1 (k .number ∙ sym e)) ∙ t .kept .stand p (z .0)
+          ];
+          clear = λ j bj f.
+              let d : j ≢ i = f q (in-before← startOf q (without (r .number) (b .chain)) q (inl refl)) in
+              let g = t .kept .clear j bj (λ p m e. let z = has-in (p .number) (before startOf q (without (r .number) (b .chain))) (rw replace-numbers at (in-has p (b .chain) m)) in f (z .0) (z .1) (e ∙ z .2)) in
+              (getD-set-other start i j (q .start) 0 d ∙ g .0, getD-set-other end i j (q .last) 0 d ∙ g .1);
+        };
+        chained = chained-same n (b .chain) _ first prev next replace-numbers (t .chained);
+        shelved = rw (k .number) v;
+      }
+
+-- ---- r taken out
+
+module _ (n : ℕ) (small : n ≤ none) (b : Book) (r : Range) (m : In r (b .chain)) where
+  pub dropped : (first : ℕ) (heads start end : List ℕ) (en : List Bool) (prev next lprev lnext : List ℕ) (first′ : ℕ) (prev′ next′ heads′ lprev′ lnext′ : List ℕ)
+      → Shape n b first heads start end en prev next lprev lnext
+      → Chained n (without (r .number) (b .chain)) first′ prev′ next′
+      → Shelved n (without (r .number) (b .shelf)) start end lprev′ lnext′ heads′
+      → Shape n (remove r b) first′ heads′ (set start (r .number) 0) (set end (r .number) 0) (set en (r .number) false) prev′ next′ lprev′ lnext′
+  unfolding remove
+  dropped first heads start end en prev next lprev lnext first′ prev′ next′ heads′ lprev′ lnext′ t c v =
+      let i = r .number in
+      let g = t .sound .good r m in
+      let still : (j : ℕ) → j ≢ i → ((p : Range) → In p (without i (b .chain)) → j ≢ p .number) → (p : Range) → In p (b .chain) → j ≢ p .number
+      = λ j d f p z e. ⊎-elim (λ (h : i ≡ p .number). d (e ∙ sym h)) (λ (h : i ≢ p .number). f p (in-without← i (b .chain) p z h) e) (same? i (p .number)) in
+      record {
+        sound = remove-sound n b r (t .sound);
+        kept = record {
+          marked = record {
+            enabled-length = length-set en i false ∙ t .kept .marked .enabled-length;
+            on = λ p z. let w = in-without→ i (b .chain) p z in getD-set-other en i (p .number) false false (λ e. w .1 (sym e)) ∙ t .kept .marked .on p (w .0);
+            off = λ j bj f. ⊎-elim
+                (λ (e : j ≡ i). rw e (getD-set-same en i false false (let a = t .kept .marked .enabled-length in let z = g .known in omega arith)))
+                (λ (d : j ≢ i). getD-set-other en i j false false d ∙ t .kept .marked .off j bj (still j d f))
+                (same? j i);
+          };
+          start-length = length-set start i 0 ∙ t .kept .start-length;
+          end-length = length-set end i 0 ∙ t .kept .end-length;
+          stand = λ p z. let w = in-without→ i (b .chain) p z in range-other start end i 0 0 (p .number) (λ e. w .1 (sym e)) ∙ t .kept .stand p (w .0);
+          clear = λ j bj f. ⊎-elim
+              (λ (e : j ≡ i). rw e (
+                getD-set-same start i 0 0 (let a = t .kept .start-length in let z = g .known in omega arith),
+                getD-set-same end i 0 0 (let a = t .kept .end-length in let z = g .known in omega arith),
+              ))
+              (λ (d : j ≢ i). let w = t .kept .clear j bj (still j d f) in (getD-set-other start i j 0 0 d ∙ w .0, getD-set-other end i j 0 0 d ∙ w .1))
+              (same? j i);
+        };
+        chained = c;
+        shelved = reslot n small (without i (b .shelf)) start end lprev′ lnext′ heads′ i 0 0 v (λ p z. in-without→ i (b .shelf) p z .1);
+      }
+
+-- ---- q put in
+
+module _ (n : ℕ) (small : n ≤ none) (b : Book) (q : Range) where
+  pub inserted : (bn an first : ℕ) (heads start end : List ℕ) (en : List Bool) (prev next lprev lnext : List ℕ) (first′ : ℕ) (prev′ next′ heads′ lprev′ lnext′ : List ℕ)
+      → (k : Inserts n b first heads start end en prev next lprev lnext bn an q)
+      → Chained n (k .gap .walked .passed ++ q ∷ k .gap .walked .rest) first′ prev′ next′
+      → Shelved n (before size q (b .shelf)) (set start (q .number) (q .start)) (set end (q .number) (q .last)) lprev′ lnext′ heads′
+      → Shape n (put q b) first′ heads′ (set start (q .number) (q .start)) (set end (q .number) (q .last)) (set en (q .number) true) prev′ next′ lprev′ lnext′
+  unfolding put
+  inserted bn an first heads start end en prev next lprev lnext first′ prev′ next′ heads′ lprev′ lnext′ k c v =
+      let i = q .number in
+      let t = k .shape in
+      let g = k .gap in
+      let e₀ : before startOf q (b .chain) ≡ g .walked .passed ++ q ∷ g .walked .rest
+      = ap (before startOf q) (g .walked .parts) ∙ before-at startOf q (g .walked .passed) (g .walked .rest) (g .walked .smaller) (g .stops) in
+      let new : (j : ℕ) → ((p : Range) → In p (before startOf q (b .chain)) → j ≢ p .number) → (j ≢ i) × ((p : Range) → In p (b .chain) → j ≢ p .number)
+      = λ j f. (f q (in-before← startOf q (b .chain) q (inl refl)), λ p z. f p (in-before← startOf q (b .chain) p (inr z))) in
+      record {
+        sound = put-sound n b q (t .sound) (k .good) (k .apart);
+        kept = record {
+          marked = record {
+            enabled-length = length-set en i true ∙ t .kept .marked .enabled-length;
+            on = λ p z. elim (in-before→ startOf q (b .chain) p z) [
+              | inl e ↦ rw e (getD-set-same en i true false (let a = t .kept .marked .enabled-length in let y = k .good .known in omega arith))
+              | inr j ↦ getD-set-other en i (p .number) true false (λ e. k .apart p j .0 (sym e)) ∙ t .kept .marked .on p j
+            ];
+            off = λ j bj f. let w = new j f in getD-set-other en i j true false (w .0) ∙ t .kept .marked .off j bj (w .1);
+          };
+          start-length = length-set start i (q .start) ∙ t .kept .start-length;
+          end-length = length-set end i (q .last) ∙ t .kept .end-length;
+          stand = λ p z. elim (in-before→ startOf q (b .chain) p z) [
+            | inl e ↦ rw e (range-at n start end i (q .start) (q .last) (t .kept .start-length) (t .kept .end-length) (k .good .known))
+            | inr j ↦ range-other start end i (q .start) (q .last) (p .number) (λ e. k .apart p j .0 (sym e)) ∙ t .kept .stand p j
+          ];
+          clear = λ j bj f. let w = new j f in let y = t .kept .clear j bj (w .1) in
+              (getD-set-other start i j (q .start) 0 (w .0) ∙ y .0, getD-set-other end i j (q .last) 0 (w .0) ∙ y .1);
+        };
+        chained = rw e₀ c;
+        shelved = v;
+      }
+
+-- ---- what the steps ask of the shelf and of the chain
+
+module _ (n : ℕ) (small : n ≤ none) (b : Book) (first : ℕ) (heads start end : List ℕ) (en : List Bool) (prev next lprev lnext : List ℕ) where
+  pub drop-removes : (i : ℕ) (r : Range) → Drops n b first heads start end en prev next lprev lnext i r → Removes n start end lprev lnext heads i (b .shelf)
+  drop-removes i r k =
+      let t = k .shape in
+      record {
+        shelved = t .shelved;
+        member = rw (k .number) (rw (t .kept .stand r (k .member)) (t .sound .same r .0 (k .member)));
+      }
+
+  pub drop-below : (i : ℕ) (r : Range) → Drops n b first heads start end en prev next lprev lnext i r → i < n
+  drop-below i r k = rw (k .number) (k .shape .sound .good r (k .member) .known)
+
+  pub drop-has : (i : ℕ) (r : Range) → Drops n b first heads start end en prev next lprev lnext i r → has i (numbers (b .chain)) ≡ true
+  drop-has i r k = rw (k .number) (in-has r (b .chain) (k .member))
+
+  module _ (x y : ℕ) (q : Range) (k : Inserts n b first heads start end en prev next lprev lnext x y q) where
+    pub insert-enters : Enters n first prev next x y q (k .gap .walked .passed) (k .gap .walked .rest)
+    insert-enters =
+        let e = k .gap .walked .parts in
+        record {
+          chained = rw e at (k .shape .chained);
+          below = k .good .known;
+          loose = λ p m. k .apart p (rw e m) .0;
+          low = k .gap .walked .low;
+          high = k .gap .walked .high;
+        }
+
+    pub insert-at : at (set start (q .number) (q .start)) (set end (q .number) (q .last)) (q .number) ≡ q
+    insert-at = range-at n start end (q .number) (q .start) (q .last) (k .shape .kept .start-length) (k .shape .kept .end-length) (k .good .known)
+
+    pub insert-places : Places n (set start (q .number) (q .start)) (set end (q .number) (q .last)) lprev lnext heads (q .number) (b .shelf)
+    insert-places =
+        let loose : (p : Range) → In p (b .shelf) → q .number ≢ p .number = λ p m. k .apart p (k .shape .sound .same p .1 m) .0 in
+        record {
+          shelved = reslot n small (b .shelf) start end lprev lnext heads (q .number) (q .start) (q .last) (k .shape .shelved) loose;
+          good = rw insert-at (k .good);
+          loose = loose;
+        }

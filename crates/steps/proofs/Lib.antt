@@ -1,0 +1,4 @@
+-- Laws of taking and giving.
+pub mod Unused
+pub mod Books
+pub mod Pieces

@@ -1,0 +1,353 @@
+-- Taking: what each case leaves.
+use Prim.Native.Nat.{ℕ, zero, suc, _+_, _-_, _^_, _<_, _≤_}
+use mathlib.Core.Bool.{Bool, true, false, cond, _&&_}
+use mathlib.Core.Logic.{_≢_, _⊎_, inl, inr, ⊎-elim}
+use mathlib.Core.List.{List, [], _∷_, _++_}
+use mathlib.Core.Path.{_≡_, refl, sym, ap, _∙_, subst}
+use lib.ListN.{length, getD, set}
+use lib.Seq.{append-snoc}
+use lib.Dec.{eqb, leb, ltb}
+use native.Mathlib.Omega.{arith}
+use native.Mathlib.Numerals.{add-one}
+use borrow.Author.Tests.{eq-eqb, ne-eqb, lt-ltb, le-ltb, le-leb, lt-leb, leb-true, leb-false}
+use Rattle.lists.specs.Links.{none, head, lastFrom, after, has, Listed}
+use Rattle.lists.proofs.Laws.{after-mid, last-snoc, below?}
+use Rattle.rules.specs.Rules.{Range, range, startOf, size, Book, total, before, without, put, remove, taken, unused, full, splits, lowest}
+use Rattle.rules.specs.Sound.{In, Pairwise}
+use Rattle.laws.proofs.Lists.{in-before→}
+use Rattle.rules.specs.Sound.{Sound, Good, Ahead, Apart, Other}
+use Rattle.laws.proofs.Kept.{others-apart, unused-other, in-put→, in-remove→}
+use Rattle.state.specs.Shown.{numbers, at, Stops, Walked, Gapped, Shelved, Chained, Marked, Shape}
+use Rattle.shelf.specs.Shelf.{Removes, Resizes}
+use Rattle.steps.specs.Steps.{Replaces, Inserts, Drops}
+use Rattle.state.specs.State.{arrays, Holds}
+use Rattle.steps.specs.Steps.{Asks, refuses, takingOf, Takes}
+use Rattle.steps.specs.declared.Taking.{Taking}
+use Rattle.steps.specs.declared.Taking.the-variants.{Done, NoRecord}
+use Rattle.state.specs.declared.RecordIndex.{RecordIndex}
+use Rattle.steps.specs.declared.Slot.the-variants.{At, Full}
+use Rattle.steps.specs.Steps.{slotOf}
+use Rattle.state.proofs.Walks.{numbers-append, in-left, in-right, in-either}
+use Rattle.steps.proofs.Books.{part, pair-low, pair-high, total-put, total-remove, replace-chain, replaced}
+
+-- ---- totals, without subtraction
+
+one-left : (tot z d y rest s a l : ℕ) → tot ≡ z + rest → z + s ≡ suc l → d + a ≡ suc l → y + s ≡ a → tot - d ≡ y + rest
+one-left tot z d y rest s a l p q h g = omega arith
+
+two-left : (tot z d y x rest s a t l : ℕ) → tot ≡ z + rest → z + s ≡ suc l → d + a ≡ t → y + s ≡ a → x + t ≡ suc l → tot - d ≡ x + (y + rest)
+two-left tot z d y x rest s a t l p q h g f = omega arith
+
+spare : (x y : ℕ) → y ≤ x → (x - y) + y ≡ x
+spare x y h = omega arith
+
+low-spare : (s′ s a : ℕ) → s′ ≡ s → s < a → (suc (a - 1) - s′) + s ≡ a
+low-spare s′ s a e h = omega arith
+
+high-spare : (l′ l t : ℕ) → l′ ≡ l → t ≤ l → (suc l′ - t) + t ≡ suc l
+high-spare l′ l t e h = omega arith
+
+-- ---- the cases of the rule
+
+module _ (n : ℕ) (b : Book) (r : Range) (a t : ℕ) where
+  taken-whole : a ≤ r .start → r .last < t → taken n r a t b ≡ remove r b
+  unfolding taken
+  taken-whole h g = rw (lt-leb t (r .last) g, le-ltb (r .start) a h)
+
+  taken-high : a ≤ r .start → t ≤ r .last → taken n r a t b ≡ put (range (r .number) t (r .last)) (remove r b)
+  unfolding taken
+  taken-high h g = rw (le-leb t (r .last) g, le-ltb (r .start) a h)
+
+  taken-low : r .start < a → r .last < t → taken n r a t b ≡ put (range (r .number) (r .start) (a - 1)) (remove r b)
+  unfolding taken
+  taken-low h g = rw (lt-leb t (r .last) g, lt-ltb (r .start) a h)
+
+  taken-both : r .start < a → t ≤ r .last → taken n r a t b ≡ put (range (unused n b) t (r .last)) (put (range (r .number) (r .start) (a - 1)) (remove r b))
+  unfolding taken
+  taken-both h g = rw (le-leb t (r .last) g, lt-ltb (r .start) a h)
+
+  refuse-low : a ≤ r .start → refuses n b r a t ≡ false
+  refuse-low h = rw (le-ltb (r .start) a h)
+
+  refuse-high : r .start < a → r .last < t → refuses n b r a t ≡ false
+  refuse-high h g = rw (lt-ltb (r .start) a h, lt-leb t (r .last) g)
+
+  refuse-both : r .start < a → t ≤ r .last → refuses n b r a t ≡ full n b
+  refuse-both h g = rw (lt-ltb (r .start) a h, le-leb t (r .last) g)
+
+  done : (b′ : Book) (s : _) → refuses n b r a t ≡ false → taken n r a t b ≡ b′ → Holds n b′ s → Takes n b r a t Done s
+  done b′ s e q h =
+      record {
+        says = sym (ap takingOf e);
+        leaves = subst (λ (x : Book). Holds n x s) (sym (ap (λ (c : Bool). cond c b (taken n r a t b)) e ∙ q)) h;
+      }
+
+module _ (n : ℕ) (small : n ≤ none) (tot first : ℕ) (heads start end : List ℕ) (en : List Bool) (prev next lprev lnext : List ℕ) (i a t : ℕ)
+    (b : Book) (r : Range) (k : Asks n b (arrays tot first heads start end en prev next lprev lnext) i a t r) where
+  abbrev shape : Shape n b first heads start end en prev next lprev lnext
+  shape = k .holds .shape
+
+  abbrev left : ℕ
+  left = tot - (t - a)
+
+  good : Good n r
+  good = shape .sound .good r (k .member)
+
+  pub at-r : at start end i ≡ r
+  at-r = rw (k .number) (shape .kept .stand r (k .member))
+
+  pub from-is : getD start i 0 ≡ r .start
+  from-is = ap (λ (q : Range). q .start) at-r
+
+  pub last-is : getD end i 0 ≡ r .last
+  last-is = ap (λ (q : Range). q .last) at-r
+
+  pub below : i < n
+  below = rw (k .number) (good .known)
+
+  pub last-below : getD end i 0 < 2 ^ 63
+  last-below = rw last-is (good .below)
+
+  pub enough : t - a ≤ tot
+  enough = let e = total-remove n r b (shape .sound) (k .member) in omega (arith, k .holds .counts, k .from, k .to)
+
+  pub drops : Drops n b first heads start end en prev next lprev lnext i r
+  drops = record { shape = shape; member = k .member; number = k .number }
+
+  pub removes : Removes n start end lprev lnext heads i (b .shelf)
+  removes = record { shelved = shape .shelved; member = rw at-r (shape .sound .same r .0 (k .member)) }
+
+  pub whole-done : getD start i 0 ≡ a → t ≡ getD end i 0 + 1
+      → (first′ : ℕ) (heads′ start′ end′ : List ℕ) (en′ : List Bool) (prev′ next′ lprev′ lnext′ : List ℕ)
+      → Shape n (remove r b) first′ heads′ start′ end′ en′ prev′ next′ lprev′ lnext′
+      → Takes n b r a t Done (arrays left first′ heads′ start′ end′ en′ prev′ next′ lprev′ lnext′)
+  whole-done ea et first′ heads′ start′ end′ en′ prev′ next′ lprev′ lnext′ v =
+      let e = total-remove n r b (shape .sound) (k .member) in
+      let q = from-is in let q′ = last-is in
+      done n b r a t (remove r b) _ (refuse-low n b r a t (omega arith)) (taken-whole n b r a t (omega arith) (omega arith))
+      (record { shape = v; counts = omega (arith, k .holds .counts) })
+
+  -- ---- one piece remains, from s to e
+
+  module _ (s e : ℕ) (ls : r .start ≤ s) (se : s ≤ e) (el : e ≤ r .last) where
+    abbrev q : Range
+    q = range i s e
+
+    pub piece-good : Good n q
+    piece-good = record { known = below; proper = se; below = let g = good .below in omega arith }
+
+    pub piece-resizes : Resizes n start end lprev lnext heads q (b .shelf)
+    piece-resizes = record { removes = removes; good = piece-good }
+
+    pub piece-replaces : Replaces n b r q
+    piece-replaces = record {
+      member = k .member;
+      number = sym (k .number);
+      good = piece-good;
+      low = λ p m h. omega arith;
+      high = λ p m h. omega arith;
+    }
+
+    pub piece-shape : (start′ end′ heads′ lprev′ lnext′ : List ℕ)
+        → start′ ≡ set start i s → end′ ≡ set end i e
+        → Shelved n (before size q (without i (b .shelf))) start′ end′ lprev′ lnext′ heads′
+        → Shape n (put q (remove r b)) first heads′ start′ end′ en prev next lprev′ lnext′
+    piece-shape start′ end′ heads′ lprev′ lnext′ es ee v =
+        rw (es, ee)
+        (replaced n b r q (shape .sound) piece-replaces first heads start end en prev next lprev lnext heads′ lprev′ lnext′ shape
+        (rw (es, ee) at v))
+
+    pub piece-total : total (put q (remove r b)) ≡ size q + total (remove r b)
+    piece-total = total-put q (remove r b)
+
+  pub high-done : getD start i 0 ≡ a → (t ≡ getD end i 0 + 1 → ⊥)
+      → (first′ : ℕ) (heads′ start′ end′ : List ℕ) (en′ : List Bool) (prev′ next′ lprev′ lnext′ : List ℕ)
+      → Shape n (put (range i t (getD end i 0)) (remove r b)) first′ heads′ start′ end′ en′ prev′ next′ lprev′ lnext′
+      → Takes n b r a t Done (arrays left first′ heads′ start′ end′ en′ prev′ next′ lprev′ lnext′)
+  high-done ea et first′ heads′ start′ end′ en′ prev′ next′ lprev′ lnext′ v =
+      let w = from-is in let w′ = last-is in
+      let d : t ≢ r .last + 1 = λ h. et (h ∙ ap (λ (x : ℕ). x + 1) (sym last-is)) in
+      let h₁ : t ≤ r .last = omega (arith, k .to) in
+      let e = total-remove n r b (shape .sound) (k .member) in
+      let e′ = total-put (range i t (getD end i 0)) (remove r b) in
+      done n b r a t (put (range i t (getD end i 0)) (remove r b)) _ (refuse-low n b r a t (omega arith))
+      (taken-high n b r a t (omega arith) h₁ ∙ sym (λ z. put (range (k .number z) t (last-is z)) (remove r b)))
+      (record { shape = v; counts = omega (arith, k .holds .counts, k .some-byte) })
+
+  module _ (ea : getD start i 0 ≡ a) (et : t ≡ getD end i 0 + 1 → ⊥) where
+    high-ends : (r .start ≤ t) × (t ≤ getD end i 0) × (getD end i 0 ≤ r .last)
+    high-ends =
+        let w = last-is in
+        let d : t ≢ getD end i 0 + 1 = et in
+        (omega (arith, k .from, k .some-byte), omega (arith, k .to), omega arith)
+
+    pub high-resizes : Resizes n start end lprev lnext heads (range i t (getD end i 0)) (b .shelf)
+    high-resizes = piece-resizes t (getD end i 0) (high-ends .0) (high-ends .1) (high-ends .2)
+
+    pub high-taken : (start′ end′ heads′ lprev′ lnext′ : List ℕ)
+        → start′ ≡ set start i t → end′ ≡ set end i (getD end i 0)
+        → Shelved n (before size (range i t (getD end i 0)) (without i (b .shelf))) start′ end′ lprev′ lnext′ heads′
+        → Takes n b r a t Done (arrays left first heads′ start′ end′ en prev next lprev′ lnext′)
+    high-taken start′ end′ heads′ lprev′ lnext′ es ee v =
+        high-done ea et first heads′ start′ end′ en prev next lprev′ lnext′
+        (piece-shape t (getD end i 0) (high-ends .0) (high-ends .1) (high-ends .2) start′ end′ heads′ lprev′ lnext′ es ee v)
+
+  module _ (ea : getD start i 0 ≡ a → ⊥) where
+    low-ends : (r .start ≤ getD start i 0) × (getD start i 0 ≤ a - 1) × (a - 1 ≤ r .last)
+    low-ends =
+        let w = from-is in
+        let d : getD start i 0 ≢ a = ea in
+        (omega arith, omega (arith, k .from), omega (arith, k .some-byte, k .to))
+
+    pub low-proper : 1 ≤ a
+    low-proper = let w = from-is in let d : getD start i 0 ≢ a = ea in omega (arith, k .from)
+
+    pub low-resizes : Resizes n start end lprev lnext heads (range i (getD start i 0) (a - 1)) (b .shelf)
+    low-resizes = piece-resizes (getD start i 0) (a - 1) (low-ends .0) (low-ends .1) (low-ends .2)
+
+    pub low-shape : (start′ end′ heads′ lprev′ lnext′ : List ℕ)
+        → start′ ≡ set start i (getD start i 0) → end′ ≡ set end i (a - 1)
+        → Shelved n (before size (range i (getD start i 0) (a - 1)) (without i (b .shelf))) start′ end′ lprev′ lnext′ heads′
+        → Shape n (put (range i (getD start i 0) (a - 1)) (remove r b)) first heads′ start′ end′ en prev next lprev′ lnext′
+    low-shape start′ end′ heads′ lprev′ lnext′ es ee v =
+        piece-shape (getD start i 0) (a - 1) (low-ends .0) (low-ends .1) (low-ends .2) start′ end′ heads′ lprev′ lnext′ es ee v
+
+  pub low-done : (getD start i 0 ≡ a → ⊥) → t ≡ getD end i 0 + 1
+      → (first′ : ℕ) (heads′ start′ end′ : List ℕ) (en′ : List Bool) (prev′ next′ lprev′ lnext′ : List ℕ)
+      → Shape n (put (range i (getD start i 0) (a - 1)) (remove r b)) first′ heads′ start′ end′ en′ prev′ next′ lprev′ lnext′
+      → Takes n b r a t Done (arrays left first′ heads′ start′ end′ en′ prev′ next′ lprev′ lnext′)
+  low-done ea et first′ heads′ start′ end′ en′ prev′ next′ lprev′ lnext′ v =
+      let w = from-is in let w′ = last-is in
+      let d : r .start ≢ a = λ h. ea (from-is ∙ h) in
+      let h₁ : r .start < a = omega (arith, k .from) in
+      let e = total-remove n r b (shape .sound) (k .member) in
+      let e′ = total-put (range i (getD start i 0) (a - 1)) (remove r b) in
+      done n b r a t (put (range i (getD start i 0) (a - 1)) (remove r b)) _ (refuse-high n b r a t h₁ (omega arith))
+      (taken-low n b r a t h₁ (omega arith) ∙ sym (λ z. put (range (k .number z) (from-is z) (a - 1)) (remove r b)))
+      (record {
+        shape = v;
+        counts = one-left tot (size r) (t - a) (size (range i (getD start i 0) (a - 1))) (total (remove r b)) (r .start) a (r .last)
+            (k .holds .counts ∙ e) (spare (suc (r .last)) (r .start) (omega (arith, good .proper))) (spare t a (omega (arith, k .some-byte)) ∙ et ∙ ap (λ (x : ℕ). x + 1) last-is ∙ add-one (r .last)) (low-spare (getD start i 0) (r .start) a from-is h₁) ∙ sym e′;
+      })
+
+  -- ---- two pieces
+
+  module _ (ea : getD start i 0 ≡ a → ⊥) (et : t ≡ getD end i 0 + 1 → ⊥) where
+    pub both-low : r .start < a
+    both-low = let d : r .start ≢ a = λ h. ea (from-is ∙ h) in omega (arith, k .from)
+
+    pub both-high : t ≤ r .last
+    both-high = let d : t ≢ r .last + 1 = λ h. et (h ∙ ap (λ (x : ℕ). x + 1) (sym last-is)) in omega (arith, k .to)
+
+    pub refused : n ≤ unused n b → Takes n b r a t NoRecord (arrays tot first heads start end en prev next lprev lnext)
+    refused f =
+        let e : refuses n b r a t ≡ true = refuse-both n b r a t both-low both-high ∙ le-leb n (unused n b) f in
+        record {
+          says = sym (ap takingOf e);
+          leaves = subst (λ (x : Book). Holds n x (arrays tot first heads start end en prev next lprev lnext)) (sym (ap (λ (c : Bool). cond c b (taken n r a t b)) e)) (k .holds);
+        }
+
+    module _ (j : ℕ) (ej : j ≡ unused n b) (bj : j < n) where
+      abbrev low : Range
+      low = range i (getD start i 0) (a - 1)
+
+      abbrev high : Range
+      high = range j t (getD end i 0)
+
+      abbrev b₁ : Book
+      b₁ = put low (remove r b)
+
+      low-replaces : Replaces n b r low
+      low-replaces = let w = from-is in let h = both-low in piece-replaces (getD start i 0) (a - 1) (omega arith) (omega arith) (omega (arith, k .to, k .some-byte, k .from))
+
+      bu : unused n b < n
+      bu = rw ej at bj
+
+      -- the low piece and the others, beside the high one
+      high-apart : (p : Range) → In p (b₁ .chain) → Other high p × Apart high p
+      high-apart p m =
+          let w = from-is in let w′ = last-is in
+          elim (in-put→ low (remove r b) p m) [
+            | inl e ↦ let h = both-low in (
+              λ d. unused-other n b bu r (k .member) (sym ej ∙ d ∙ ap (λ (x : Range). x .number) e ∙ k .number),
+              inl (subst (λ (x : Range). Ahead x high) (sym e) (omega (arith, k .some-byte))),
+            )
+            | inr v ↦ let z = in-remove→ r b p v in (
+              λ d. unused-other n b bu p (z .0) (sym ej ∙ d),
+              elim (others-apart n b r p (shape .sound) (k .member) (z .0) (z .1)) [ inl h ↦ inl (omega (arith, k .from, k .some-byte)) | inr h ↦ inr (omega arith) ],
+            )
+          ]
+
+      high-good : Good n high
+      high-good = let w′ = last-is in let h = both-high in let g = good .below in record { known = bj; proper = omega arith; below = omega arith }
+
+      -- where it goes in the chain
+      high-gap : (heads′ start′ end′ lprev′ lnext′ : List ℕ) → Shape n b₁ first heads′ start′ end′ en prev next lprev′ lnext′ → Gapped startOf (b₁ .chain) t i (getD next i 0)
+      unfolding put remove low-replaces piece-replaces
+      high-gap heads′ start′ end′ lprev′ lnext′ v =
+          let w = part r (b .chain) (k .member) in
+          let ch : b₁ .chain ≡ w .0 ++ low ∷ w .1 = replace-chain n b r low (shape .sound) low-replaces in
+          let ap′ : Pairwise Ahead (w .0 ++ r ∷ w .1) = rw (w .2) at (shape .sound .apart) in
+          let ls : Listed n (numbers (w .0) ++ i ∷ numbers (w .1)) = rw (ch, numbers-append (w .0) (low ∷ w .1)) at (v .chained .threads .listed 0) in
+          let f = from-is in
+          record {
+            walked = record {
+              passed = w .0 ++ (low ∷ []);
+              rest = w .1;
+              parts = ch ∙ sym (append-snoc (w .0) low (w .1));
+              smaller = λ p m. elim (in-either p (w .0) (low ∷ []) m) [
+                | inl z ↦ let h = pair-low Ahead (w .0) r (w .1) ap′ p z in let g = shape .sound .good p (rw (w .2) (in-left p (w .0) (r ∷ w .1) z)) .proper in omega (arith, k .from, k .some-byte)
+                | inr z ↦ elim z [ inl e ↦ let e′ : p .start ≡ getD start i 0 = ap (λ (x : Range). x .start) e in omega (arith, k .from, k .some-byte) | inr y ↦ absurd y ]
+              ];
+              low = sym (ap (lastFrom none) (numbers-append (w .0) (low ∷ [])) ∙ last-snoc none (numbers (w .0)) i);
+              high = v .chained .threads .nexts i below ∙ ap (λ (l : List Range). after (numbers l) i) ch
+                  ∙ ap (λ (l : List ℕ). after l i) (numbers-append (w .0) (low ∷ w .1)) ∙ after-mid n small i (numbers (w .0)) (numbers (w .1)) ls;
+            };
+            stops = stops (w .1) (λ p m. pair-high Ahead (w .0) r (w .1) ap′ p m);
+          }
+        where
+          stops : (u : List Range) → ((p : Range) → In p u → Ahead r p) → Stops startOf t u
+          stops [] f = tt
+          stops (p ∷ u) f = let h = f p (inl refl) in let g = both-high in omega arith
+
+      pub both-inserts : (y : ℕ) (heads′ start′ end′ lprev′ lnext′ : List ℕ) → y ≡ getD next i 0
+          → Shape n b₁ first heads′ start′ end′ en prev next lprev′ lnext′
+          → Inserts n b₁ first heads′ start′ end′ en prev next lprev′ lnext′ i y high
+      both-inserts y heads′ start′ end′ lprev′ lnext′ ey v =
+          record { shape = v; good = high-good; apart = high-apart; gap = rw ey (high-gap heads′ start′ end′ lprev′ lnext′ v) }
+
+      pub both-done : (first′ : ℕ) (heads′ start′ end′ : List ℕ) (en′ : List Bool) (prev′ next′ lprev′ lnext′ : List ℕ)
+          → Shape n (put high b₁) first′ heads′ start′ end′ en′ prev′ next′ lprev′ lnext′
+          → Takes n b r a t Done (arrays left first′ heads′ start′ end′ en′ prev′ next′ lprev′ lnext′)
+      both-done first′ heads′ start′ end′ en′ prev′ next′ lprev′ lnext′ v =
+          let w = from-is in let w′ = last-is in
+          let h₁ = both-low in let h₂ = both-high in
+          let e = total-remove n r b (shape .sound) (k .member) in
+          let e₁ = total-put low (remove r b) in
+          let e₂ = total-put high b₁ in
+          done n b r a t (put high b₁) _ (refuse-both n b r a t h₁ h₂ ∙ lt-leb n (unused n b) bu)
+          (taken-both n b r a t h₁ h₂ ∙ sym (λ z. put (range (ej z) t (last-is z)) (put (range (k .number z) (from-is z) (a - 1)) (remove r b))))
+          (record {
+            shape = v;
+            counts = two-left tot (size r) (t - a) (size low) (size high) (total (remove r b)) (r .start) a t (r .last)
+                (k .holds .counts ∙ e) (spare (suc (r .last)) (r .start) (omega (arith, good .proper))) (spare t a (omega (arith, k .some-byte))) (low-spare (getD start i 0) (r .start) a from-is h₁) (high-spare (getD end i 0) (r .last) t last-is h₂)
+                ∙ sym (e₂ ∙ ap (λ (x : ℕ). size high + x) e₁);
+          })
+
+-- ---- what the search for an unused record tells
+
+pub unused-is : (n : ℕ) (b : Book) → lowest n 0 (b .chain) ≡ unused n b
+unfolding unused
+unused-is n b = refl
+
+pub slot-full : (n i : ℕ) → Full ≡ slotOf n i → n ≤ i
+slot-full n i = ⊎-elim
+    (λ (h : i < n). rw (lt-ltb i n h) (λ e. let z : _≡_ {A = ℕ} 0 1 = cc in absurd (let k : ⊥ = omega arith in k)))
+    (λ (h : n ≤ i). λ e. h)
+    (below? i n)
+
+pub slot-at : (n i : ℕ) (j : RecordIndex) → At j ≡ slotOf n i → (j .0 ≡ i) × (i < n)
+slot-at n i j = ⊎-elim
+    (λ (h : i < n). rw (lt-ltb i n h) (λ e. let q : j ≡ record { 0 = i } = cc in (ap (λ (x : RecordIndex). x .0) q, h)))
+    (λ (h : n ≤ i). rw (le-ltb i n h) (λ e. let z : _≡_ {A = ℕ} 0 1 = cc in absurd (let k : ⊥ = omega arith in k)))
+    (below? i n)

@@ -1,0 +1,42 @@
+-- The lowest unused record, from the marks of the records in use. Assumes nothing.
+use Prim.Native.Nat.{ℕ, zero, suc, _+_, _-_, _<_, _≤_}
+use mathlib.Core.Bool.{Bool, true, false, cond}
+use mathlib.Core.Logic.{_≢_, _⊎_, inl, inr, ⊎-elim}
+use mathlib.Core.List.{List, [], _∷_, _++_}
+use mathlib.Core.Path.{_≡_, refl, sym, ap, _∙_, subst}
+use lib.ListN.{length, getD, set, length-set}
+use lib.Dec.{eqb, eqb→eq, eqb-refl, T}
+use native.Mathlib.Omega.{arith}
+use native.Mathlib.Numerals.{add-one}
+use borrow.Author.Tests.{eq-eqb, ne-eqb}
+use Rattle.lists.specs.Links.{pick, upd, none, head, lastFrom, after, Fresh, Listed, has}
+use Rattle.lists.specs.Links as links
+use Rattle.lists.specs.Threads.{Threads, alone, only, cut, Between}
+use Rattle.lists.proofs.Laws.{same?, head-without, head-put, listed-left, listed-widen, parted, listed-right}
+use Rattle.lists.proofs.Threading.{same-lists, has-below}
+use Rattle.rules.specs.Rules.{Range, range, without, any, lowest}
+use Rattle.rules.specs.Sound.{In}
+use Rattle.laws.proofs.Lists.{if, any→, neq, any←, T-true, T-false, T-or-not, T-no}
+use Rattle.state.specs.Shown.{numbers, Chained, Marked}
+
+pub marked-any : (n : ℕ) (c : List Range) (en : List Bool) → Marked n c en → (i : ℕ) → i < n → getD en i false ≡ any (λ r. eqb i (r .number)) c
+marked-any n c en m i b =
+    let p : Range → Bool = λ r. eqb i (r .number) in
+    elim (T-or-not (any p c)) [
+      | inl t ↦ let w = any→ p c t in ap (λ (k : ℕ). getD en k false) (eqb→eq i (w .0 .number) (w .2)) ∙ m .on (w .0) (w .1) ∙ sym (T-true (any p c) t)
+      | inr t ↦ m .off i b (λ r j e. T-no (any p c) t (any← p c r j (subst (λ (x : ℕ). T (eqb i x)) e (eqb-refl i)))) ∙ sym (T-false (any p c) t)
+    ]
+
+pub lowest-skip : (k i : ℕ) (c : List Range) → 0 < k → any (λ r. eqb i (r .number)) c ≡ true → lowest k i c ≡ lowest (k - 1) (i + 1) c
+unfolding lowest
+lowest-skip zero i c h e = absurd (let k : ⊥ = omega arith in k)
+lowest-skip (suc k) i c h e = let q : suc k - 1 ≡ k = omega arith in rw (e, add-one i, q)
+
+pub lowest-stop : (k i : ℕ) (c : List Range) → 0 < k → any (λ r. eqb i (r .number)) c ≡ false → lowest k i c ≡ i
+unfolding lowest
+lowest-stop zero i c h e = absurd (let k : ⊥ = omega arith in k)
+lowest-stop (suc k) i c h e = rw e
+
+pub lowest-end : (i : ℕ) (c : List Range) → lowest 0 i c ≡ i
+unfolding lowest
+lowest-end i c = refl

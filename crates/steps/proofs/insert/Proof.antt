@@ -1,0 +1,55 @@
+use mathlib.Core.Path.{refl}
+use lib.Dec.{lit≤}
+use Rattle.state.specs.Shown.{pool}
+use Rattle.steps.proofs.Books.{inserted, insert-enters, insert-at, insert-places}
+use borrow.Author.Needs.{needs}
+use Rattle.steps.proofs.insert.Statement.{statement}
+use Rattle.steps.proofs.insert.Tie as tie
+use Rattle.steps.proofs.insert.Reads as reads
+use Rattle.steps.proofs.insert.Lts as lts
+
+enchain-requires : tie.Need-enchain-requires
+enchain-requires c κs = search needs
+
+cast-m : tie.Need-cast-m
+cast-m c = search needs
+
+mul-start : tie.Need-mul-start
+mul-start c = search needs
+
+element-write-start : tie.Need-element-write-start
+element-write-start c = search needs
+
+mul-end : tie.Need-mul-end
+mul-end c = search needs
+
+element-write-end : tie.Need-element-write-end
+element-write-end c = search needs
+
+element-write-enabled : tie.Need-element-write-enabled
+element-write-enabled c = search needs
+
+chain-entry-to-free-list-requires : tie.Need-chain-entry-to-free-list-requires
+chain-entry-to-free-list-requires c κs =
+    let u = c .before .before .before .before .before .before .before .before .before .before .pre in
+    (u .0 .shelf, insert-places pool (lit≤ tt) (u .0) _ _ _ _ _ _ _ _ _ _ _ _ (u .1))
+
+returns : tie.Need-returns
+returns c b k =
+    inserted pool (lit≤ tt) b _ _ _ _ _ _ _ _ _ _ _ _ _ _ _ _ _ _ k
+    (c .before .before .before .before .before .before .before .enchain .ensures _ _ _ refl (insert-enters pool (lit≤ tt) b _ _ _ _ _ _ _ _ _ _ _ _ k))
+    (rw (insert-at pool (lit≤ tt) b _ _ _ _ _ _ _ _ _ _ _ _ k) at (c .chain-entry-to-free-list .ensures (b .shelf) (insert-places pool (lit≤ tt) b _ _ _ _ _ _ _ _ _ _ _ _ k)))
+
+pub insert-spec : {M : Type 1} → statement M
+insert-spec =
+    tie.close
+    (tie.spec
+    enchain-requires
+    cast-m
+    mul-start
+    element-write-start
+    mul-end
+    element-write-end
+    element-write-enabled
+    chain-entry-to-free-list-requires
+    returns)

@@ -1,0 +1,2 @@
+-- What the contracts of taking and giving cite.
+pub mod Steps
