@@ -1,2 +1,3 @@
 -- Laws of the chain.
 pub mod Chain
+pub mod Neighbours

@@ -5,8 +5,8 @@ use mathlib.Core.List.{List, _++_}
 use mathlib.Core.Path.{_≡_}
 use Rattle.lists.specs.Links.{none, head, lastFrom}
 use Rattle.rules.specs.Rules.{Range}
-use Rattle.rules.specs.Sound.{In}
-use Rattle.state.specs.Shown.{numbers, Chained}
+use Rattle.rules.specs.Sound.{In, Pairwise, Ahead}
+use Rattle.state.specs.Shown.{numbers, Runs, Chained}
 
 -- the range q may go into the chain between b and a
 pub record Enters (n : ℕ) (first : ℕ) (prev next : List ℕ) (b a : ℕ) (q : Range) (l r : List Range) : Type 0 where
@@ -15,3 +15,9 @@ pub record Enters (n : ℕ) (first : ℕ) (prev next : List ℕ) (b a : ℕ) (q 
   pub loose : (p : Range) → In p (l ++ r) → q .number ≢ p .number
   pub low : b ≡ lastFrom none (numbers l)
   pub high : a ≡ head (numbers r)
+
+-- the links lead from `first` along the ranges of c, which are by address
+pub record Ordered (n : ℕ) (c : List Range) (start end next : List ℕ) (first : ℕ) : Type 0 where
+  pub runs : Runs n c start end next
+  pub leads : first ≡ head (numbers c)
+  pub apart : Pairwise Ahead c

@@ -1,19 +1,23 @@
 // The chain: the free ranges by address.
+use links::Gap;
+use links::Hit;
 use links::choose;
 use links::link_between;
 use links::link_of;
 use links::unlink;
+use state::Address;
 use state::NONE;
 use state::POOL;
 use state::RecordIndex;
 ghost use mathlib.Core.Path.{_≡_};
 ghost use mathlib.Core.Bool.{true};
-ghost use Prim.Native.Nat.{_<_};
+ghost use Prim.Native.Nat.{ℕ, _<_, _≤_};
 ghost use mathlib.Core.List.{List, _++_, _∷_};
-ghost use Rattle.lists.specs.Links.{has};
-ghost use Rattle.rules.specs.Rules.{Range, without};
-ghost use Rattle.state.specs.Shown.{pool, numbers, Chained};
-ghost use Rattle.chain.specs.Chain.{Enters};
+ghost use Rattle.lists.specs.Links.{has, head};
+ghost use Rattle.rules.specs.Rules.{top, Range, startOf, find, contains, without};
+ghost use Rattle.state.specs.Shown.{pool, numbers, Runs, Gapped, Chained};
+ghost use Rattle.chain.specs.Chain.{Enters, Ordered};
+ghost use Rattle.links.specs.Hits.{hitOf};
 
 // Record i goes out of the chain.
 pub fn unchain(first: &mut u16, prev: &mut [u16; POOL], next: &mut [u16; POOL], i: RecordIndex)
@@ -40,4 +44,58 @@ pub fn enchain(
     let head = RecordIndex(*first);
     *first = choose(b, RecordIndex(NONE), i, head).0;
     link_between(prev, next, b, i, a);
+}
+
+// The place of an address in the chain: after the last range that starts below it.
+pub fn search_entry_previous_address(
+    start: &[u64; POOL],
+    next: &[u16; POOL],
+    first: RecordIndex,
+    address: Address,
+) -> Gap
+    requires { ⌜ ((c : List Range) × (end : List ℕ) × Runs pool c (now start) end (now next) × (first .0 ≡ head (numbers c))) ⌝ }
+    ensures { λ g. ⌜ ((c : List Range) (end : List ℕ) → Runs pool c (now (start .entry)) end (now (next .entry)) → first .0 ≡ head (numbers c) → Gapped startOf c (address .0) (g .before .0) (g .after .0)) ⌝ }
+{
+    let mut before = RecordIndex(NONE);
+    let mut cur = first;
+    while cur.0 != NONE {
+        let n = cur.0 as usize;
+        if address.0 <= start[n] {
+            return Gap {
+                before: before,
+                after: cur,
+            };
+        }
+        before = cur;
+        cur = link_of(next, cur);
+    }
+    Gap {
+        before: before,
+        after: cur,
+    }
+}
+
+// The range that holds the bytes from `address` to before `past`.
+pub fn search_entry_containing_address(
+    start: &[u64; POOL],
+    end: &[u64; POOL],
+    next: &[u16; POOL],
+    first: RecordIndex,
+    address: Address,
+    past: Address,
+) -> Hit
+    requires { ⌜ ((c : List Range) × Ordered pool c (now start) (now end) (now next) (first .0)) ⌝ }
+    requires { ⌜ (address .0 < past .0) × (past .0 ≤ top) ⌝ }
+    ensures { λ k. ⌜ ((c : List Range) → Ordered pool c (now (start .entry)) (now (end .entry)) (now (next .entry)) (first .0) → k ≡ hitOf (find (contains (address .0) (past .0)) c)) ⌝ }
+{
+    let gap = search_entry_previous_address(start, next, first, Address(address.0 + 1));
+    let i = gap.before;
+    if i.0 == NONE {
+        return Hit::Nothing;
+    }
+    let n = i.0 as usize;
+    if end[n] < past.0 - 1 {
+        return Hit::Nothing;
+    }
+    Hit::At(i)
 }

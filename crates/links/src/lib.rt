@@ -18,6 +18,12 @@ pub struct Gap {
     pub after: RecordIndex,
 }
 
+// The record of the range that a search was for.
+pub enum Hit {
+    At(RecordIndex),
+    Nothing,
+}
+
 // The link of record i is set, where there is such a record.
 pub fn point(links: &mut [u16; POOL], i: RecordIndex, to: RecordIndex)
     ensures { λ _. ⌜ (Sets pool (now (links .entry)) (i .0) (to .0) (now (links .exit))) ⌝ }

@@ -2,12 +2,9 @@
 use Prim.Native.Nat.{ℕ}
 use mathlib.Core.Logic.{_≢_}
 use mathlib.Core.List.{List}
-use mathlib.Core.Option.{Option, none, some}
 use Rattle.rules.specs.Rules.{Range}
 use Rattle.rules.specs.Sound.{In, Good}
 use Rattle.state.specs.Shown.{at, Shelved}
-use Rattle.shelf.specs.declared.Fit.{Fit}
-use Rattle.shelf.specs.declared.Fit.the-variants as fit
 
 -- record i may go out of the shelf l, or into it
 pub record Removes (n : ℕ) (start end prev next heads : List ℕ) (i : ℕ) (l : List Range) : Type 0 where
@@ -23,8 +20,3 @@ pub record Places (n : ℕ) (start end prev next heads : List ℕ) (i : ℕ) (l 
 pub record Resizes (n : ℕ) (start end prev next heads : List ℕ) (q : Range) (l : List Range) : Type 0 where
   pub removes : Removes n start end prev next heads (q .number) l
   pub good : Good n q
-
--- the record of the range that was found
-abbrev pub fitOf : Option Range → Fit
-fitOf none = fit.Nothing
-fitOf (some r) = fit.At (record { 0 = r .number })

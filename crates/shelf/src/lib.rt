@@ -2,6 +2,7 @@
 use align::align_address_and_available_size;
 use align::size_to_page_order;
 use links::Gap;
+use links::Hit;
 use links::choose;
 use links::link_between;
 use links::link_of;
@@ -19,7 +20,8 @@ ghost use Rattle.lists.specs.Links.{head};
 ghost use Rattle.rules.specs.Rules.{Range, find, fits, range, size, without, before};
 ghost use Rattle.rules.specs.Sound.{Good};
 ghost use Rattle.state.specs.Shown.{pool, numbers, at, Runs, Gapped, Shelved};
-ghost use Rattle.shelf.specs.Shelf.{Removes, Places, Resizes, fitOf};
+ghost use Rattle.shelf.specs.Shelf.{Removes, Places, Resizes};
+ghost use Rattle.links.specs.Hits.{hitOf};
 
 // The number of bytes of record i.
 pub fn get_size(start: &[u64; POOL], end: &[u64; POOL], i: RecordIndex) -> u64
@@ -143,11 +145,6 @@ pub fn fits_at(
     size <= left.size
 }
 
-pub enum Fit {
-    At(RecordIndex),
-    Nothing,
-}
-
 // The first range of the shelf that fits. The lists below that of `size` hold smaller ranges only.
 pub fn find_fit(
     start: &[u64; POOL],
@@ -156,19 +153,19 @@ pub fn find_fit(
     heads: &[u16; LISTS],
     size: u64,
     order: u64,
-) -> Fit
+) -> Hit
     requires { ⌜ ((l : List Range) × (prev : List ℕ) × Shelved pool l (now start) (now end) prev (now next) (now heads)) ⌝ }
     requires { ⌜ (0 < size) × (order ≤ 63) ⌝ }
-    ensures { λ k. ⌜ ((l : List Range) (prev : List ℕ) → Shelved pool l (now (start .entry)) (now (end .entry)) prev (now (next .entry)) (now (heads .entry)) → k ≡ fitOf (find (fits size order) l)) ⌝ }
+    ensures { λ k. ⌜ ((l : List Range) (prev : List ℕ) → Shelved pool l (now (start .entry)) (now (end .entry)) prev (now (next .entry)) (now (heads .entry)) → k ≡ hitOf (find (fits size order) l)) ⌝ }
 {
     let own = size_to_page_order(size);
-    let mut hit = Fit::Nothing;
+    let mut hit = Hit::Nothing;
     let mut k = own.0 as usize;
     'search: while k < LISTS {
         let mut cur = RecordIndex(heads[k]);
         while cur.0 != NONE {
             if fits_at(start, end, cur, size, order) {
-                hit = Fit::At(cur);
+                hit = Hit::At(cur);
                 break 'search;
             }
             cur = link_of(next, cur);

@@ -11,8 +11,8 @@ use Rattle.rules.specs.Sound.{Good}
 use Rattle.laws.proofs.Shelf.{twelve}
 use Rattle.state.specs.Shown.{pool, numbers, at, Shelved, Walked}
 use Rattle.rules.specs.Rules.{sizeLists}
-use Rattle.shelf.specs.Shelf.{fitOf}
-use Rattle.shelf.specs.declared.Fit.the-variants.{At, Nothing}
+use Rattle.links.specs.Hits.{hitOf}
+use Rattle.links.specs.declared.Hit.the-variants.{At, Nothing}
 use Rattle.state.specs.declared.RecordIndex.{RecordIndex}
 use Rattle.state.proofs.Walks.{walk-starts, Stands, stands, stands-at, stands-good, walk-on, walk-less}
 use Rattle.shelf.proofs.Shelf.{runs}
@@ -127,7 +127,7 @@ returns c l prev t =
     let d = c .before .search in
     let x = c .before .before .before .before .args in
     let e : sizeLists - d .k ≡ 0 = omega arith in
-    d .inv .1 ∙ ap fitOf (sym (d .inv .2 l prev t ∙ ap (λ (m : ℕ). find (fits (x .size) (x .order)) (lists (d .k) m l)) e ∙ list-end (fits (x .size) (x .order)) (d .k) l))
+    d .inv .1 ∙ ap hitOf (sym (d .inv .2 l prev t ∙ ap (λ (m : ℕ). find (fits (x .size) (x .order)) (lists (d .k) m l)) e ∙ list-end (fits (x .size) (x .order)) (d .k) l))
 
 returns-2 : tie.Need-returns-2 Inv-loop μ-loop Inv-search μ-search
 returns-2 c l prev t =
@@ -137,7 +137,7 @@ returns-2 c l prev t =
     let w = turn c₂ l prev t .1 in
     let q = stands-at pool (lit≤ tt) _ _ _ _ _ (runs pool l _ _ prev _ _ t (d .k)) 1 _ _ w in
     ap At (ap (λ (i : ℕ). record { 0 = i }) (w .at-here))
-    ∙ ap fitOf (sym (d .inv .2 l prev t
+    ∙ ap hitOf (sym (d .inv .2 l prev t
     ∙ list-hit (fits (x .size) (x .order)) (d .k) (sizeLists - d .k) l (w .low) (w .here) (w .high) (omega arith) (w .parts) (w .smaller)
     (ap (fits (x .size) (x .order)) (sym q) ∙ sym (c .before .fits-at .ensures) ∙ c .if2 .taken)))
 

@@ -1,11 +1,11 @@
 use lib.Dec.{lit≤}
 use Rattle.state.specs.Shown.{pool}
-use Rattle.steps.proofs.Books.{dropped, drop-removes, drop-below, drop-has}
+use Rattle.entries.proofs.Books.{dropped, drop-removes, drop-below, drop-has}
 use borrow.Author.Needs.{needs}
-use Rattle.steps.proofs.delete_entry.Statement.{statement}
-use Rattle.steps.proofs.delete_entry.Tie as tie
-use Rattle.steps.proofs.delete_entry.Reads as reads
-use Rattle.steps.proofs.delete_entry.Lts as lts
+use Rattle.entries.proofs.delete_entry.Statement.{statement}
+use Rattle.entries.proofs.delete_entry.Tie as tie
+use Rattle.entries.proofs.delete_entry.Reads as reads
+use Rattle.entries.proofs.delete_entry.Lts as lts
 
 unchain-entry-from-free-list-requires : tie.Need-unchain-entry-from-free-list-requires
 unchain-entry-from-free-list-requires c κs =

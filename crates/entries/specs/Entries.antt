@@ -1,19 +1,19 @@
--- What taking and giving ask for and leave. Assumes nothing.
-use Prim.Native.Nat.{ℕ, suc, _<_, _≤_}
-use mathlib.Core.Bool.{Bool, true, false, cond, _&&_}
+-- What a record that comes into use or goes out of it asks for, and how a step ends that may want one. Assumes nothing.
+use Prim.Native.Nat.{ℕ}
+use mathlib.Core.Bool.{Bool, true, false, cond}
 use mathlib.Core.List.{List}
 use mathlib.Core.Path.{_≡_}
 use lib.Dec.{ltb}
 use Rattle.lists.specs.Links.{pick}
-use Rattle.rules.specs.Rules.{Range, startOf, Book, taken, full, splits}
+use Rattle.rules.specs.Rules.{Range, startOf, Book}
 use Rattle.rules.specs.Sound.{In, Good, Other, Ahead, Apart}
 use Rattle.state.specs.Shown.{Gapped, Shape}
 use Rattle.state.specs.State.{Holds}
 use Rattle.state.specs.declared.MemoryAllocator.{MemoryAllocator}
-use Rattle.steps.specs.declared.Slot.{Slot}
-use Rattle.steps.specs.declared.Slot.the-variants.{At, Full}
-use Rattle.steps.specs.declared.Taking.{Taking}
-use Rattle.steps.specs.declared.Taking.the-variants.{Done, NoRecord}
+use Rattle.entries.specs.declared.Slot.{Slot}
+use Rattle.entries.specs.declared.Slot.the-variants.{At, Full}
+use Rattle.entries.specs.declared.Moving.{Moving}
+use Rattle.entries.specs.declared.Moving.the-variants.{Done, NoRecord}
 
 -- the record i, if it is one of n
 abbrev pub slotOf : ℕ → ℕ → Slot
@@ -40,25 +40,12 @@ pub record Drops (n : ℕ) (b : Book) (first : ℕ) (heads start end : List ℕ)
   pub member : In r (b .chain)
   pub number : i ≡ r .number
 
--- ---- taking
+-- how a step ends, by whether it wants a record and there is none
+abbrev pub movingOf : Bool → Moving
+movingOf true = NoRecord
+movingOf false = Done
 
--- the bytes from a to before t are in the range r, of record i
-pub record Asks (n : ℕ) (b : Book) (s : MemoryAllocator) (i a t : ℕ) (r : Range) : Type 0 where
-  pub holds : Holds n b s
-  pub member : In r (b .chain)
-  pub number : i ≡ r .number
-  pub from : r .start ≤ a
-  pub some-byte : a < t
-  pub to : t ≤ suc (r .last)
-
--- no record is left for the second piece
-abbrev pub refuses : ℕ → Book → Range → ℕ → ℕ → Bool
-refuses n b r a t = splits a t r && full n b
-
-abbrev pub takingOf : Bool → Taking
-takingOf true = NoRecord
-takingOf false = Done
-
-pub record Takes (n : ℕ) (b : Book) (r : Range) (a t : ℕ) (k : Taking) (s : MemoryAllocator) : Type 0 where
-  pub says : k ≡ takingOf (refuses n b r a t)
-  pub leaves : Holds n (cond (refuses n b r a t) b (taken n r a t b)) s
+-- the step that makes b′ of the book b ended so, and the state holds what it left
+pub record Leaves (n : ℕ) (wants : Bool) (b b′ : Book) (k : Moving) (s : MemoryAllocator) : Type 0 where
+  pub says : k ≡ movingOf wants
+  pub leaves : Holds n (cond wants b b′) s

@@ -3,12 +3,12 @@ use mathlib.Core.Path.{sym, _∙_}
 use lib.Dec.{lit≤}
 use native.Mathlib.Omega.{arith}
 use Rattle.state.specs.Shown.{pool}
-use Rattle.steps.proofs.Pieces.{unused-is, slot-full, slot-at, high-resizes, high-taken, low-proper, low-resizes, low-shape, below, enough, last-below, from-is, last-is, drops, whole-done, piece-resizes, piece-shape, high-done, low-done, both-low, both-high, refused, both-inserts, both-done}
+use Rattle.take.proofs.Pieces.{unused-is, slot-full, slot-at, high-resizes, high-taken, low-proper, low-resizes, low-shape, below, enough, last-below, from-is, last-is, drops, whole-done, piece-resizes, piece-shape, high-done, low-done, both-low, both-high, refused, both-inserts, both-done}
 use borrow.Author.Needs.{needs}
-use Rattle.steps.proofs.define_used_memory.Statement.{statement}
-use Rattle.steps.proofs.define_used_memory.Tie as tie
-use Rattle.steps.proofs.define_used_memory.Reads as reads
-use Rattle.steps.proofs.define_used_memory.Lts as lts
+use Rattle.take.proofs.define_used_memory.Statement.{statement}
+use Rattle.take.proofs.define_used_memory.Tie as tie
+use Rattle.take.proofs.define_used_memory.Reads as reads
+use Rattle.take.proofs.define_used_memory.Lts as lts
 
 cast-n : tie.Need-cast-n
 cast-n c = search needs

@@ -1,4 +1,4 @@
--- Taking: what each case leaves.
+-- Moving: what each case leaves.
 use Prim.Native.Nat.{ℕ, zero, suc, _+_, _-_, _^_, _<_, _≤_}
 use mathlib.Core.Bool.{Bool, true, false, cond, _&&_}
 use mathlib.Core.Logic.{_≢_, _⊎_, inl, inr, ⊎-elim}
@@ -19,16 +19,17 @@ use Rattle.rules.specs.Sound.{Sound, Good, Ahead, Apart, Other}
 use Rattle.laws.proofs.Kept.{others-apart, unused-other, in-put→, in-remove→}
 use Rattle.state.specs.Shown.{numbers, at, Stops, Walked, Gapped, Shelved, Chained, Marked, Shape}
 use Rattle.shelf.specs.Shelf.{Removes, Resizes}
-use Rattle.steps.specs.Steps.{Replaces, Inserts, Drops}
+use Rattle.entries.specs.Entries.{Replaces, Inserts, Drops}
 use Rattle.state.specs.State.{arrays, Holds}
-use Rattle.steps.specs.Steps.{Asks, refuses, takingOf, Takes}
-use Rattle.steps.specs.declared.Taking.{Taking}
-use Rattle.steps.specs.declared.Taking.the-variants.{Done, NoRecord}
+use Rattle.entries.specs.Entries.{movingOf}
+use Rattle.take.specs.Take.{Asks, refuses, Takes}
+use Rattle.entries.specs.declared.Moving.{Moving}
+use Rattle.entries.specs.declared.Moving.the-variants.{Done, NoRecord}
 use Rattle.state.specs.declared.RecordIndex.{RecordIndex}
-use Rattle.steps.specs.declared.Slot.the-variants.{At, Full}
-use Rattle.steps.specs.Steps.{slotOf}
+use Rattle.entries.specs.declared.Slot.the-variants.{At, Full}
+use Rattle.entries.specs.Entries.{slotOf}
 use Rattle.state.proofs.Walks.{numbers-append, in-left, in-right, in-either}
-use Rattle.steps.proofs.Books.{part, pair-low, pair-high, total-put, total-remove, replace-chain, replaced}
+use Rattle.entries.proofs.Books.{part, pair-low, pair-high, total-put, total-remove, replace-chain, replaced}
 
 -- ---- totals, without subtraction
 
@@ -78,7 +79,7 @@ module _ (n : ℕ) (b : Book) (r : Range) (a t : ℕ) where
   done : (b′ : Book) (s : _) → refuses n b r a t ≡ false → taken n r a t b ≡ b′ → Holds n b′ s → Takes n b r a t Done s
   done b′ s e q h =
       record {
-        says = sym (ap takingOf e);
+        says = sym (ap movingOf e);
         leaves = subst (λ (x : Book). Holds n x s) (sym (ap (λ (c : Bool). cond c b (taken n r a t b)) e ∙ q)) h;
       }
 
@@ -243,7 +244,7 @@ module _ (n : ℕ) (small : n ≤ none) (tot first : ℕ) (heads start end : Lis
     refused f =
         let e : refuses n b r a t ≡ true = refuse-both n b r a t both-low both-high ∙ le-leb n (unused n b) f in
         record {
-          says = sym (ap takingOf e);
+          says = sym (ap movingOf e);
           leaves = subst (λ (x : Book). Holds n x (arrays tot first heads start end en prev next lprev lnext)) (sym (ap (λ (c : Bool). cond c b (taken n r a t b)) e)) (k .holds);
         }
 

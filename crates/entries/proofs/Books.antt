@@ -21,7 +21,7 @@ use Rattle.laws.proofs.Kept.{put-sound, remove-sound, in-put→, in-put←, in-
 use Rattle.state.specs.Shown.{numbers, at, Stand, Stops, Walked, Gapped, Shelved, Chained, Marked, Kept, Shape}
 use Rattle.shelf.specs.Shelf.{Removes, Places, Resizes}
 use Rattle.chain.specs.Chain.{Enters}
-use Rattle.steps.specs.Steps.{Replaces, Inserts, Drops}
+use Rattle.entries.specs.Entries.{Replaces, Inserts, Drops}
 use Rattle.state.proofs.Walks.{numbers-append, in-left, in-right, in-either, in-has, has-in, without-fresh, fresh-numbers, before-at}
 use Rattle.shelf.proofs.Shelf.{range-at, range-other, reslot}
 

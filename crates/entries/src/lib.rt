@@ -1,9 +1,7 @@
-// Taking a piece out of a free range, and giving one back, in place.
+// Records that come into use and go out of it, in place.
 use chain::enchain;
 use chain::unchain;
-use links::link_of;
 use shelf::chain_entry_to_free_list;
-use shelf::resize;
 use shelf::unchain_entry_from_free_list;
 use state::Address;
 use state::LISTS;
@@ -13,12 +11,17 @@ ghost use mathlib.Core.Path.{_≡_};
 ghost use mathlib.Core.List.{List};
 ghost use Rattle.rules.specs.Rules.{Range, range, lowest, Book, remove, put};
 ghost use Rattle.state.specs.Shown.{pool, Marked, Shape};
-ghost use Rattle.state.specs.State.{arrays};
-ghost use Rattle.steps.specs.Steps.{slotOf, Drops, Inserts, Asks, Takes};
+ghost use Rattle.entries.specs.Entries.{slotOf, Drops, Inserts};
 
 pub enum Slot {
     At(RecordIndex),
     Full,
+}
+
+// How a step ends that may want a record.
+pub enum Moving {
+    Done,
+    NoRecord,
 }
 
 // The lowest unused record.
@@ -86,102 +89,4 @@ pub fn insert(
     end[m] = e.0;
     enabled[m] = true;
     chain_entry_to_free_list(start, end, lprev, lnext, heads, j);
-}
-
-pub enum Taking {
-    Done,
-    NoRecord,
-}
-
-// The bytes from a to before t are taken out of the range in record i; in place.
-pub fn define_used_memory(
-    total: &mut u64,
-    first: &mut u16,
-    heads: &mut [u16; LISTS],
-    start: &mut [u64; POOL],
-    end: &mut [u64; POOL],
-    enabled: &mut [bool; POOL],
-    previous: &mut [u16; POOL],
-    next: &mut [u16; POOL],
-    lprev: &mut [u16; POOL],
-    lnext: &mut [u16; POOL],
-    i: RecordIndex,
-    a: Address,
-    t: Address,
-) -> Taking
-    requires { ⌜ ((b : Book) × (r : Range) × Asks pool b (arrays (now total) (now first) (now heads) (now start) (now end) (now enabled) (now previous) (now next) (now lprev) (now lnext)) (i .0) (a .0) (t .0) r) ⌝ }
-    ensures { λ k. ⌜ ((b : Book) (r : Range) → Asks pool b (arrays (now (total .entry)) (now (first .entry)) (now (heads .entry)) (now (start .entry)) (now (end .entry)) (now (enabled .entry)) (now (previous .entry)) (now (next .entry)) (now (lprev .entry)) (now (lnext .entry))) (i .0) (a .0) (t .0) r → Takes pool b r (a .0) (t .0) k (arrays (now (total .exit)) (now (first .exit)) (now (heads .exit)) (now (start .exit)) (now (end .exit)) (now (enabled .exit)) (now (previous .exit)) (now (next .exit)) (now (lprev .exit)) (now (lnext .exit)))) ⌝ }
-{
-    let n = i.0 as usize;
-    let from = start[n];
-    let last = end[n];
-    let left = *total - (t.0 - a.0);
-    if from == a.0 {
-        if t.0 == last + 1 {
-            delete_entry(
-                first,
-                heads,
-                start,
-                end,
-                enabled,
-                previous,
-                next,
-                lprev,
-                lnext,
-                i,
-            );
-            *total = left;
-            return Taking::Done;
-        }
-        resize(start, end, lprev, lnext, heads, i, t, Address(last));
-        *total = left;
-        return Taking::Done;
-    }
-    if t.0 == last + 1 {
-        resize(
-            start,
-            end,
-            lprev,
-            lnext,
-            heads,
-            i,
-            Address(from),
-            Address(a.0 - 1),
-        );
-        *total = left;
-        return Taking::Done;
-    }
-    let slot = create_memory_entry(enabled);
-    let Slot::At(j) = slot else {
-        return Taking::NoRecord;
-    };
-    resize(
-        start,
-        end,
-        lprev,
-        lnext,
-        heads,
-        i,
-        Address(from),
-        Address(a.0 - 1),
-    );
-    let y = link_of(next, i);
-    insert(
-        first,
-        heads,
-        start,
-        end,
-        enabled,
-        previous,
-        next,
-        lprev,
-        lnext,
-        i,
-        j,
-        y,
-        t,
-        Address(last),
-    );
-    *total = left;
-    Taking::Done
 }

@@ -1,12 +1,12 @@
 use mathlib.Core.Path.{refl}
 use lib.Dec.{lit≤}
 use Rattle.state.specs.Shown.{pool}
-use Rattle.steps.proofs.Books.{inserted, insert-enters, insert-at, insert-places}
+use Rattle.entries.proofs.Books.{inserted, insert-enters, insert-at, insert-places}
 use borrow.Author.Needs.{needs}
-use Rattle.steps.proofs.insert.Statement.{statement}
-use Rattle.steps.proofs.insert.Tie as tie
-use Rattle.steps.proofs.insert.Reads as reads
-use Rattle.steps.proofs.insert.Lts as lts
+use Rattle.entries.proofs.insert.Statement.{statement}
+use Rattle.entries.proofs.insert.Tie as tie
+use Rattle.entries.proofs.insert.Reads as reads
+use Rattle.entries.proofs.insert.Lts as lts
 
 enchain-requires : tie.Need-enchain-requires
 enchain-requires c κs = search needs

@@ -1,0 +1,3 @@
+-- Laws of the records in use.
+pub mod Unused
+pub mod Books

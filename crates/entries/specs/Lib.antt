@@ -1,0 +1,2 @@
+-- What the contracts of the records cite.
+pub mod Entries

@@ -1,4 +1,0 @@
--- Laws of taking and giving.
-pub mod Unused
-pub mod Books
-pub mod Pieces

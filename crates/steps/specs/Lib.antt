@@ -1,2 +1,0 @@
--- What the contracts of taking and giving cite.
-pub mod Steps

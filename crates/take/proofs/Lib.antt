@@ -1,0 +1,2 @@
+-- Laws of taking.
+pub mod Pieces

@@ -1,0 +1,2 @@
+-- What the contract of taking cites.
+pub mod Take
