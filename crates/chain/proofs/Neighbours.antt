@@ -11,7 +11,7 @@ use native.Mathlib.Omega.{arith}
 use Rattle.lists.specs.Links as links
 use Rattle.rules.specs.Rules.{Range, startOf, contains, find}
 use Rattle.rules.specs.Sound.{In, Pairwise, Ahead, Good}
-use Rattle.laws.proofs.Lists.{Found, found, and-l, and-r, and-i, T-no, compared}
+use Rattle.laws.proofs.Lists.{find-one, find-none, and-l, and-r, and-i}
 use Rattle.state.specs.Shown.{numbers, Stops, Gapped}
 use Rattle.state.proofs.Walks.{in-right, in-left, in-either}
 
@@ -149,12 +149,8 @@ contains→ a t r h = (leb→le (r .start) a (and-l (leb (r .start) a) (leb t (s
 
 module _ (n : ℕ) (small : n ≤ links.none) (c : List Range) (good : (r : Range) → In r c → Good n r) (apart : Pairwise Ahead c)
     (a t x y : ℕ) (some-byte : a < t) (g : Gapped startOf c (a + 1) x y) where
-  nothing : (o : Option Range) → Found (contains a t) c o → ((q : Range) → In q c → T (contains a t q) → ⊥) → o ≡ none
-  nothing none f h = refl
-  nothing (some q) f h = absurd (h q (f .0) (f .1))
-
   pub none-contains : x ≡ links.none → find (contains a t) c ≡ none
-  none-contains d = nothing (find (contains a t) c) (found (contains a t) c)
+  none-contains d = find-none (contains a t) c
       (λ q m h. let w = contains→ a t q h in let k = none-below n small c good apart (a + 1) x y g d q m in omega arith)
 
   module _ (b : Below n small c good apart (a + 1) x y g) where
@@ -166,13 +162,10 @@ module _ (n : ℕ) (small : n ≤ links.none) (c : List Range) (good : (r : Rang
     ]
 
     pub short-contains : suc (b .range .last) < t → find (contains a t) c ≡ none
-    short-contains h = nothing (find (contains a t) c) (found (contains a t) c)
+    short-contains h = find-none (contains a t) c
         (λ q m k. let w = contains→ a t q k in let e = ap (λ (r : Range). r .last) (only-below q m k) in omega arith)
 
     pub long-contains : t ≤ suc (b .range .last) → find (contains a t) c ≡ some (b .range)
-    long-contains h = go (find (contains a t) c) (found (contains a t) c)
-      where
-        go : (o : Option Range) → Found (contains a t) c o → o ≡ some (b .range)
-        go none f = absurd (T-no (contains a t (b .range)) (f (b .range) (b .member))
-            (and-i (leb (b .range .start) a) (leb t (suc (b .range .last))) (le→leb (b .range .start) a (let i = b .starts in omega arith)) (le→leb t (suc (b .range .last)) h)))
-        go (some q) f = ap some (only-below q (f .0) (f .1))
+    long-contains h = find-one (contains a t) c (b .range) (b .member)
+        (and-i (leb (b .range .start) a) (leb t (suc (b .range .last))) (le→leb (b .range .start) a (let i = b .starts in omega arith)) (le→leb t (suc (b .range .last)) h))
+        only-below

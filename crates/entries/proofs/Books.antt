@@ -268,3 +268,21 @@ module _ (n : ℕ) (small : n ≤ none) (b : Book) (first : ℕ) (heads start en
           good = rw insert-at (k .good);
           loose = loose;
         }
+
+-- ---- a record's range exchanged for another in its place
+
+module _ (n : ℕ) (small : n ≤ none) (b : Book) (first : ℕ) (heads start end : List ℕ) (en : List Bool) (prev next lprev lnext : List ℕ)
+    (t : Shape n b first heads start end en prev next lprev lnext) (r : Range) (i s e : ℕ) (k : Replaces n b r (range i s e)) where
+  pub swap-resizes : Resizes n start end lprev lnext heads (range i s e) (b .shelf)
+  swap-resizes = record {
+    removes = drop-removes n small b first heads start end en prev next lprev lnext i r (record { shape = t; member = k .member; number = sym (k .number) });
+    good = k .good;
+  }
+
+  pub swap-shape : (start′ end′ heads′ lprev′ lnext′ : List ℕ)
+      → start′ ≡ set start i s → end′ ≡ set end i e
+      → Shelved n (before size (range i s e) (without i (b .shelf))) start′ end′ lprev′ lnext′ heads′
+      → Shape n (put (range i s e) (remove r b)) first heads′ start′ end′ en prev next lprev′ lnext′
+  swap-shape start′ end′ heads′ lprev′ lnext′ es ee v =
+      rw (es, ee)
+      (replaced n b r (range i s e) (t .sound) k first heads start end en prev next lprev lnext heads′ lprev′ lnext′ t (rw (es, ee) at v))

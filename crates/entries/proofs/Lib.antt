@@ -1,3 +1,4 @@
 -- Laws of the records in use.
 pub mod Unused
 pub mod Books
+pub mod Moves

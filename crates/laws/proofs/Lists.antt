@@ -159,6 +159,21 @@ found p (q ∷ l) = if (p q) (λ o. Found p (q ∷ l) o) (λ t. (inl refl, t)) (
     further none h t = λ r i. elim i [ inl e ↦ subst (λ (x : Range). T (not (p x))) (sym e) t | inr j ↦ h r j ]
     further (some r) h t = (inr (h .0), h .1)
 
+-- where one member alone passes the test, it is found; where none does, nothing is
+pub find-one : (p : Range → Bool) (l : List Range) (r : Range) → In r l → T (p r) → ((q : Range) → In q l → T (p q) → q ≡ r) → find p l ≡ some r
+find-one p l r m h f = go (find p l) (found p l)
+  where
+    go : (o : Option Range) → Found p l o → o ≡ some r
+    go none g = absurd (T-no (p r) (g r m) h)
+    go (some q) g = ap some (f q (g .0) (g .1))
+
+pub find-none : (p : Range → Bool) (l : List Range) → ((q : Range) → In q l → T (p q) → ⊥) → find p l ≡ none
+find-none p l f = go (find p l) (found p l)
+  where
+    go : (o : Option Range) → Found p l o → o ≡ none
+    go none g = refl
+    go (some q) g = absurd (f q (g .0) (g .1))
+
 -- the lowest unused number: it is one of the k + 1 from i; if not the last, no member has it; it is at most any that no member has
 abbrev pub named : ℕ → Range → Bool
 named i r = eqb i (r .number)

@@ -29,7 +29,8 @@ use Rattle.state.specs.declared.RecordIndex.{RecordIndex}
 use Rattle.entries.specs.declared.Slot.the-variants.{At, Full}
 use Rattle.entries.specs.Entries.{slotOf}
 use Rattle.state.proofs.Walks.{numbers-append, in-left, in-right, in-either}
-use Rattle.entries.proofs.Books.{part, pair-low, pair-high, total-put, total-remove, replace-chain, replaced}
+use Rattle.entries.proofs.Books.{part, pair-low, pair-high, total-put, total-remove, replace-chain, swap-resizes, swap-shape}
+use Rattle.entries.proofs.Moves.{done, refused}
 
 -- ---- totals, without subtraction
 
@@ -76,13 +77,6 @@ module _ (n : ℕ) (b : Book) (r : Range) (a t : ℕ) where
   refuse-both : r .start < a → t ≤ r .last → refuses n b r a t ≡ full n b
   refuse-both h g = rw (lt-ltb (r .start) a h, le-leb t (r .last) g)
 
-  done : (b′ : Book) (s : _) → refuses n b r a t ≡ false → taken n r a t b ≡ b′ → Holds n b′ s → Takes n b r a t Done s
-  done b′ s e q h =
-      record {
-        says = sym (ap movingOf e);
-        leaves = subst (λ (x : Book). Holds n x s) (sym (ap (λ (c : Bool). cond c b (taken n r a t b)) e ∙ q)) h;
-      }
-
 module _ (n : ℕ) (small : n ≤ none) (tot first : ℕ) (heads start end : List ℕ) (en : List Bool) (prev next lprev lnext : List ℕ) (i a t : ℕ)
     (b : Book) (r : Range) (k : Asks n b (arrays tot first heads start end en prev next lprev lnext) i a t r) where
   abbrev shape : Shape n b first heads start end en prev next lprev lnext
@@ -115,9 +109,6 @@ module _ (n : ℕ) (small : n ≤ none) (tot first : ℕ) (heads start end : Lis
   pub drops : Drops n b first heads start end en prev next lprev lnext i r
   drops = record { shape = shape; member = k .member; number = k .number }
 
-  pub removes : Removes n start end lprev lnext heads i (b .shelf)
-  removes = record { shelved = shape .shelved; member = rw at-r (shape .sound .same r .0 (k .member)) }
-
   pub whole-done : getD start i 0 ≡ a → t ≡ getD end i 0 + 1
       → (first′ : ℕ) (heads′ start′ end′ : List ℕ) (en′ : List Bool) (prev′ next′ lprev′ lnext′ : List ℕ)
       → Shape n (remove r b) first′ heads′ start′ end′ en′ prev′ next′ lprev′ lnext′
@@ -125,7 +116,7 @@ module _ (n : ℕ) (small : n ≤ none) (tot first : ℕ) (heads start end : Lis
   whole-done ea et first′ heads′ start′ end′ en′ prev′ next′ lprev′ lnext′ v =
       let e = total-remove n r b (shape .sound) (k .member) in
       let q = from-is in let q′ = last-is in
-      done n b r a t (remove r b) _ (refuse-low n b r a t (omega arith)) (taken-whole n b r a t (omega arith) (omega arith))
+      done n (refuses n b r a t) b (taken n r a t b) _ (remove r b) (refuse-low n b r a t (omega arith)) (taken-whole n b r a t (omega arith) (omega arith))
       (record { shape = v; counts = omega (arith, k .holds .counts) })
 
   -- ---- one piece remains, from s to e
@@ -137,9 +128,6 @@ module _ (n : ℕ) (small : n ≤ none) (tot first : ℕ) (heads start end : Lis
     pub piece-good : Good n q
     piece-good = record { known = below; proper = se; below = let g = good .below in omega arith }
 
-    pub piece-resizes : Resizes n start end lprev lnext heads q (b .shelf)
-    piece-resizes = record { removes = removes; good = piece-good }
-
     pub piece-replaces : Replaces n b r q
     piece-replaces = record {
       member = k .member;
@@ -149,17 +137,14 @@ module _ (n : ℕ) (small : n ≤ none) (tot first : ℕ) (heads start end : Lis
       high = λ p m h. omega arith;
     }
 
+    pub piece-resizes : Resizes n start end lprev lnext heads q (b .shelf)
+    piece-resizes = swap-resizes n small b first heads start end en prev next lprev lnext shape r i s e piece-replaces
+
     pub piece-shape : (start′ end′ heads′ lprev′ lnext′ : List ℕ)
         → start′ ≡ set start i s → end′ ≡ set end i e
         → Shelved n (before size q (without i (b .shelf))) start′ end′ lprev′ lnext′ heads′
         → Shape n (put q (remove r b)) first heads′ start′ end′ en prev next lprev′ lnext′
-    piece-shape start′ end′ heads′ lprev′ lnext′ es ee v =
-        rw (es, ee)
-        (replaced n b r q (shape .sound) piece-replaces first heads start end en prev next lprev lnext heads′ lprev′ lnext′ shape
-        (rw (es, ee) at v))
-
-    pub piece-total : total (put q (remove r b)) ≡ size q + total (remove r b)
-    piece-total = total-put q (remove r b)
+    piece-shape = swap-shape n small b first heads start end en prev next lprev lnext shape r i s e piece-replaces
 
   pub high-done : getD start i 0 ≡ a → (t ≡ getD end i 0 + 1 → ⊥)
       → (first′ : ℕ) (heads′ start′ end′ : List ℕ) (en′ : List Bool) (prev′ next′ lprev′ lnext′ : List ℕ)
@@ -171,7 +156,7 @@ module _ (n : ℕ) (small : n ≤ none) (tot first : ℕ) (heads start end : Lis
       let h₁ : t ≤ r .last = omega (arith, k .to) in
       let e = total-remove n r b (shape .sound) (k .member) in
       let e′ = total-put (range i t (getD end i 0)) (remove r b) in
-      done n b r a t (put (range i t (getD end i 0)) (remove r b)) _ (refuse-low n b r a t (omega arith))
+      done n (refuses n b r a t) b (taken n r a t b) _ (put (range i t (getD end i 0)) (remove r b)) (refuse-low n b r a t (omega arith))
       (taken-high n b r a t (omega arith) h₁ ∙ sym (λ z. put (range (k .number z) t (last-is z)) (remove r b)))
       (record { shape = v; counts = omega (arith, k .holds .counts, k .some-byte) })
 
@@ -223,7 +208,7 @@ module _ (n : ℕ) (small : n ≤ none) (tot first : ℕ) (heads start end : Lis
       let h₁ : r .start < a = omega (arith, k .from) in
       let e = total-remove n r b (shape .sound) (k .member) in
       let e′ = total-put (range i (getD start i 0) (a - 1)) (remove r b) in
-      done n b r a t (put (range i (getD start i 0) (a - 1)) (remove r b)) _ (refuse-high n b r a t h₁ (omega arith))
+      done n (refuses n b r a t) b (taken n r a t b) _ (put (range i (getD start i 0) (a - 1)) (remove r b)) (refuse-high n b r a t h₁ (omega arith))
       (taken-low n b r a t h₁ (omega arith) ∙ sym (λ z. put (range (k .number z) (from-is z) (a - 1)) (remove r b)))
       (record {
         shape = v;
@@ -240,13 +225,8 @@ module _ (n : ℕ) (small : n ≤ none) (tot first : ℕ) (heads start end : Lis
     pub both-high : t ≤ r .last
     both-high = let d : t ≢ r .last + 1 = λ h. et (h ∙ ap (λ (x : ℕ). x + 1) (sym last-is)) in omega (arith, k .to)
 
-    pub refused : n ≤ unused n b → Takes n b r a t NoRecord (arrays tot first heads start end en prev next lprev lnext)
-    refused f =
-        let e : refuses n b r a t ≡ true = refuse-both n b r a t both-low both-high ∙ le-leb n (unused n b) f in
-        record {
-          says = sym (ap movingOf e);
-          leaves = subst (λ (x : Book). Holds n x (arrays tot first heads start end en prev next lprev lnext)) (sym (ap (λ (c : Bool). cond c b (taken n r a t b)) e)) (k .holds);
-        }
+    pub no-record : n ≤ unused n b → Takes n b r a t NoRecord (arrays tot first heads start end en prev next lprev lnext)
+    no-record f = refused n (refuses n b r a t) b (taken n r a t b) _ (refuse-both n b r a t both-low both-high ∙ le-leb n (unused n b) f) (k .holds)
 
     module _ (j : ℕ) (ej : j ≡ unused n b) (bj : j < n) where
       abbrev low : Range
@@ -326,7 +306,7 @@ module _ (n : ℕ) (small : n ≤ none) (tot first : ℕ) (heads start end : Lis
           let e = total-remove n r b (shape .sound) (k .member) in
           let e₁ = total-put low (remove r b) in
           let e₂ = total-put high b₁ in
-          done n b r a t (put high b₁) _ (refuse-both n b r a t h₁ h₂ ∙ lt-leb n (unused n b) bu)
+          done n (refuses n b r a t) b (taken n r a t b) _ (put high b₁) (refuse-both n b r a t h₁ h₂ ∙ lt-leb n (unused n b) bu)
           (taken-both n b r a t h₁ h₂ ∙ sym (λ z. put (range (ej z) t (last-is z)) (put (range (k .number z) (from-is z) (a - 1)) (remove r b))))
           (record {
             shape = v;

@@ -3,7 +3,7 @@ use mathlib.Core.Path.{sym, _∙_}
 use lib.Dec.{lit≤}
 use native.Mathlib.Omega.{arith}
 use Rattle.state.specs.Shown.{pool}
-use Rattle.take.proofs.Pieces.{unused-is, slot-full, slot-at, high-resizes, high-taken, low-proper, low-resizes, low-shape, below, enough, last-below, from-is, last-is, drops, whole-done, piece-resizes, piece-shape, high-done, low-done, both-low, both-high, refused, both-inserts, both-done}
+use Rattle.take.proofs.Pieces.{unused-is, slot-full, slot-at, high-resizes, high-taken, low-proper, low-resizes, low-shape, below, enough, last-below, from-is, last-is, drops, whole-done, piece-resizes, piece-shape, high-done, low-done, both-low, both-high, no-record, both-inserts, both-done}
 use borrow.Author.Needs.{needs}
 use Rattle.take.proofs.define_used_memory.Statement.{statement}
 use Rattle.take.proofs.define_used_memory.Tie as tie
@@ -76,7 +76,7 @@ enum-told c = search needs
 
 returns-4 : tie.Need-returns-4
 returns-4 c b r k =
-    refused pool (lit≤ tt) _ _ _ _ _ _ _ _ _ _ _ _ _ b r k (c .before .before .before .before .before .before .if1 .left) (c .before .before .before .before .if3 .left)
+    no-record pool (lit≤ tt) _ _ _ _ _ _ _ _ _ _ _ _ _ b r k (c .before .before .before .before .before .before .if1 .left) (c .before .before .before .before .if3 .left)
     (rw (unused-is pool b) at (slot-full pool (lowest pool 0 (b .chain)) (sym (c .enum-told .given .1) ∙ c .before .before .create-memory-entry .ensures (b .chain) (k .holds .shape .kept .marked))))
 
 sub-t27 : tie.Need-sub-t27
