@@ -24,7 +24,11 @@ pair-last : (R : Range → Range → Type 0) (l : List Range) (r : Range) (u : L
 pair-last R (q ∷ l) r u h p (inl e) = subst (λ (x : Range). R x r) (sym e) (h .0 r (in-left r (l ++ (r ∷ [])) u (in-right r l (r ∷ []) (inl refl))))
 pair-last R (q ∷ l) r u h p (inr i) = pair-last R l r u (h .1) p i
 
-pair-right : (R : Range → Range → Type 0) (l u : List Range) → Pairwise R (l ++ u) → Pairwise R u
+pub pair-left : (R : Range → Range → Type 0) (l u : List Range) → Pairwise R (l ++ u) → Pairwise R l
+pair-left R [] u h = tt
+pair-left R (q ∷ l) u h = (λ p i. h .0 p (in-left p l u i), pair-left R l u (h .1))
+
+pub pair-right : (R : Range → Range → Type 0) (l u : List Range) → Pairwise R (l ++ u) → Pairwise R u
 pair-right R [] u h = h
 pair-right R (q ∷ l) u h = pair-right R l u (h .1)
 
@@ -45,7 +49,7 @@ module _ (n : ℕ) (small : n ≤ links.none) (c : List Range) (good : (r : Rang
   from-high : (q : Range) → In q high → In q c
   from-high q m = rw (g .walked .parts) (in-right q low high m)
 
-  high-starts : (q : Range) → In q high → s ≤ q .start
+  pub high-starts : (q : Range) → In q high → s ≤ q .start
   high-starts q m = go high (g .stops) (pair-right Ahead low high (rw (g .walked .parts) at apart)) (λ p i. good p (from-high p i) .proper) m
     where
       go : (u : List Range) → Stops startOf s u → Pairwise Ahead u → ((p : Range) → In p u → p .start ≤ p .last) → In q u → s ≤ q .start

@@ -8,16 +8,15 @@ use lib.ListN.{length, getD, set, length-set}
 use lib.Dec.{eqb, eqb→eq, eqb-refl, T}
 use native.Mathlib.Omega.{arith}
 use native.Mathlib.Numerals.{add-one}
-use borrow.Author.Tests.{eq-eqb, ne-eqb}
-use Rattle.lists.specs.Links.{pick, upd, none, head, lastFrom, after, Fresh, Listed, has}
-use Rattle.lists.specs.Links as links
-use Rattle.lists.specs.Threads.{Threads, alone, only, cut, Between}
-use Rattle.lists.proofs.Laws.{same?, head-without, head-put, listed-left, listed-widen, parted, listed-right}
-use Rattle.lists.proofs.Threading.{same-lists, has-below}
-use Rattle.rules.specs.Rules.{Range, range, without, any, lowest}
+use borrow.Author.Tests.{lt-ltb, le-ltb}
+use Rattle.rules.specs.Rules.{Range, Book, any, lowest, unused}
 use Rattle.rules.specs.Sound.{In}
 use Rattle.laws.proofs.Lists.{if, any→, neq, any←, T-true, T-false, T-or-not, T-no}
-use Rattle.state.specs.Shown.{numbers, Chained, Marked}
+use Rattle.state.specs.Shown.{Marked}
+use Rattle.state.specs.declared.RecordIndex.{RecordIndex}
+use Rattle.lists.proofs.Laws.{below?}
+use Rattle.entries.specs.Entries.{slotOf}
+use Rattle.entries.specs.declared.Slot.the-variants.{At, Full}
 
 pub marked-any : (n : ℕ) (c : List Range) (en : List Bool) → Marked n c en → (i : ℕ) → i < n → getD en i false ≡ any (λ r. eqb i (r .number)) c
 marked-any n c en m i b =
@@ -40,3 +39,21 @@ lowest-stop (suc k) i c h e = rw e
 pub lowest-end : (i : ℕ) (c : List Range) → lowest 0 i c ≡ i
 unfolding lowest
 lowest-end i c = refl
+
+-- ---- what the search for an unused record tells
+
+pub unused-is : (n : ℕ) (b : Book) → lowest n 0 (b .chain) ≡ unused n b
+unfolding unused
+unused-is n b = refl
+
+pub slot-full : (n i : ℕ) → Full ≡ slotOf n i → n ≤ i
+slot-full n i = ⊎-elim
+    (λ (h : i < n). rw (lt-ltb i n h) (λ e. let z : _≡_ {A = ℕ} 0 1 = cc in absurd (let k : ⊥ = omega arith in k)))
+    (λ (h : n ≤ i). λ e. h)
+    (below? i n)
+
+pub slot-at : (n i : ℕ) (j : RecordIndex) → At j ≡ slotOf n i → (j .0 ≡ i) × (i < n)
+slot-at n i j = ⊎-elim
+    (λ (h : i < n). rw (lt-ltb i n h) (λ e. let q : j ≡ record { 0 = i } = cc in (ap (λ (x : RecordIndex). x .0) q, h)))
+    (λ (h : n ≤ i). rw (le-ltb i n h) (λ e. let z : _≡_ {A = ℕ} 0 1 = cc in absurd (let k : ⊥ = omega arith in k)))
+    (below? i n)

@@ -314,21 +314,3 @@ module _ (n : ℕ) (small : n ≤ none) (tot first : ℕ) (heads start end : Lis
                 (k .holds .counts ∙ e) (spare (suc (r .last)) (r .start) (omega (arith, good .proper))) (spare t a (omega (arith, k .some-byte))) (low-spare (getD start i 0) (r .start) a from-is h₁) (high-spare (getD end i 0) (r .last) t last-is h₂)
                 ∙ sym (e₂ ∙ ap (λ (x : ℕ). size high + x) e₁);
           })
-
--- ---- what the search for an unused record tells
-
-pub unused-is : (n : ℕ) (b : Book) → lowest n 0 (b .chain) ≡ unused n b
-unfolding unused
-unused-is n b = refl
-
-pub slot-full : (n i : ℕ) → Full ≡ slotOf n i → n ≤ i
-slot-full n i = ⊎-elim
-    (λ (h : i < n). rw (lt-ltb i n h) (λ e. let z : _≡_ {A = ℕ} 0 1 = cc in absurd (let k : ⊥ = omega arith in k)))
-    (λ (h : n ≤ i). λ e. h)
-    (below? i n)
-
-pub slot-at : (n i : ℕ) (j : RecordIndex) → At j ≡ slotOf n i → (j .0 ≡ i) × (i < n)
-slot-at n i j = ⊎-elim
-    (λ (h : i < n). rw (lt-ltb i n h) (λ e. let q : j ≡ record { 0 = i } = cc in (ap (λ (x : RecordIndex). x .0) q, h)))
-    (λ (h : n ≤ i). rw (le-ltb i n h) (λ e. let z : _≡_ {A = ℕ} 0 1 = cc in absurd (let k : ⊥ = omega arith in k)))
-    (below? i n)

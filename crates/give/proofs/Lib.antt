@@ -1,0 +1,2 @@
+-- Laws of giving.
+pub mod Joining

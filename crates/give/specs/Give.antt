@@ -1,0 +1,26 @@
+-- What giving asks for and leaves. Assumes nothing.
+use Prim.Native.Nat.{ℕ, suc, _<_, _≤_}
+use mathlib.Core.Bool.{Bool, _&&_}
+use mathlib.Core.Logic.{_⊎_}
+use Rattle.rules.specs.Rules.{top, Range, startOf, Book, lower, upper, alone, full, given}
+use Rattle.rules.specs.Sound.{In}
+use Rattle.state.specs.Shown.{Gapped}
+use Rattle.state.specs.State.{Holds}
+use Rattle.state.specs.declared.MemoryAllocator.{MemoryAllocator}
+use Rattle.entries.specs.Entries.{Leaves}
+use Rattle.entries.specs.declared.Moving.{Moving}
+
+-- no byte from a to before t is free, and their place in the chain is between the records x and y
+pub record Offers (n : ℕ) (b : Book) (s : MemoryAllocator) (x y a t : ℕ) : Type 0 where
+  pub holds : Holds n b s
+  pub gap : Gapped startOf (b .chain) a x y
+  pub some-byte : a < t
+  pub below : t ≤ top
+  pub clear : (q : Range) → In q (b .chain) → (suc (q .last) ≤ a) ⊎ (t ≤ q .start)
+
+-- the piece touches no free range, and no record is left for it
+abbrev pub wants : ℕ → Book → ℕ → ℕ → Bool
+wants n b a t = alone (lower a b) (upper t b) && full n b
+
+abbrev pub Joins : ℕ → Book → ℕ → ℕ → Moving → MemoryAllocator → Type 0
+Joins n b a t k s = Leaves n (wants n b a t) b (given n a t b) k s

@@ -1,0 +1,2 @@
+-- What the contract of giving cites.
+pub mod Give
