@@ -1,3 +1,5 @@
 -- Laws of the chain.
 pub mod Chain
 pub mod Neighbours
+pub mod Overlap
+pub mod Whole

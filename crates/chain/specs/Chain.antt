@@ -4,9 +4,9 @@ use mathlib.Core.Logic.{_≢_}
 use mathlib.Core.List.{List, _++_}
 use mathlib.Core.Path.{_≡_}
 use Rattle.lists.specs.Links.{none, head, lastFrom}
-use Rattle.rules.specs.Rules.{Range}
-use Rattle.rules.specs.Sound.{In, Pairwise, Ahead}
-use Rattle.state.specs.Shown.{numbers, Runs, Chained}
+use Rattle.rules.specs.Rules.{Range, startOf}
+use Rattle.rules.specs.Sound.{In, Pairwise, Ahead, Good}
+use Rattle.state.specs.Shown.{numbers, Stand, Runs, Gapped, Chained}
 
 -- the range q may go into the chain between b and a
 pub record Enters (n : ℕ) (first : ℕ) (prev next : List ℕ) (b a : ℕ) (q : Range) (l r : List Range) : Type 0 where
@@ -21,3 +21,16 @@ pub record Ordered (n : ℕ) (c : List Range) (start end next : List ℕ) (first
   pub runs : Runs n c start end next
   pub leads : first ≡ head (numbers c)
   pub apart : Pairwise Ahead c
+
+-- the records x and y stand on either side of the place of an address in the chain c
+pub record Placed (n : ℕ) (c : List Range) (start end : List ℕ) (x y address : ℕ) : Type 0 where
+  pub good : (r : Range) → In r c → Good n r
+  pub stand : Stand c start end
+  pub apart : Pairwise Ahead c
+  pub gap : Gapped startOf c address x y
+
+-- record i has the range r of the chain c
+pub record Chosen (n : ℕ) (c : List Range) (start end next : List ℕ) (first i : ℕ) (r : Range) : Type 0 where
+  pub ordered : Ordered n c start end next first
+  pub member : In r c
+  pub number : i ≡ r .number

@@ -10,13 +10,15 @@ use state::NONE;
 use state::POOL;
 use state::RecordIndex;
 ghost use mathlib.Core.Path.{_≡_};
-ghost use mathlib.Core.Bool.{true};
+ghost use mathlib.Core.Bool.{true, _&&_};
+ghost use lib.Dec.{eqb, leb, ltb};
+ghost use lib.ListN.{getD, length};
 ghost use Prim.Native.Nat.{ℕ, _<_, _≤_};
 ghost use mathlib.Core.List.{List, _++_, _∷_};
 ghost use Rattle.lists.specs.Links.{has, head};
-ghost use Rattle.rules.specs.Rules.{top, Range, startOf, find, contains, without};
+ghost use Rattle.rules.specs.Rules.{top, Range, startOf, any, find, contains, meets, whole, without};
 ghost use Rattle.state.specs.Shown.{pool, numbers, Runs, Gapped, Chained};
-ghost use Rattle.chain.specs.Chain.{Enters, Ordered};
+ghost use Rattle.chain.specs.Chain.{Enters, Ordered, Placed, Chosen};
 ghost use Rattle.links.specs.Hits.{hitOf};
 
 // Record i goes out of the chain.
@@ -98,4 +100,71 @@ pub fn search_entry_containing_address(
         return Hit::Nothing;
     }
     Hit::At(i)
+}
+
+// Whether record i has a range whose last byte is at the address or past it.
+pub fn reaches(end: &[u64; POOL], i: RecordIndex, address: Address) -> bool
+    ensures { λ k. ⌜ k ≡ (ltb (i .0) pool && leb (address .0) (getD (now (end .entry)) (i .0) 0)) ⌝ }
+{
+    let n = i.0 as usize;
+    if POOL <= n {
+        return false;
+    }
+    address.0 <= end[n]
+}
+
+// Whether record i has a range that starts below the address.
+pub fn starts_below(start: &[u64; POOL], i: RecordIndex, address: Address) -> bool
+    ensures { λ k. ⌜ k ≡ (ltb (i .0) pool && ltb (getD (now (start .entry)) (i .0) 0) (address .0)) ⌝ }
+{
+    let n = i.0 as usize;
+    if POOL <= n {
+        return false;
+    }
+    start[n] < address.0
+}
+
+// Whether a byte from `address` to before `past` is free; the records on either side of the place of `address` tell.
+pub fn overlaps_neighbour(
+    start: &[u64; POOL],
+    end: &[u64; POOL],
+    before: RecordIndex,
+    after: RecordIndex,
+    address: Address,
+    past: Address,
+) -> bool
+    requires { ⌜ address .0 < past .0 ⌝ }
+    ensures { λ k. ⌜ ((c : List Range) → Placed pool c (now (start .entry)) (now (end .entry)) (before .0) (after .0) (address .0) → k ≡ any (meets (address .0) (past .0)) c) ⌝ }
+{
+    if reaches(end, before, address) {
+        return true;
+    }
+    starts_below(start, after, past)
+}
+
+// Whether record i has the only range, and its bytes are those from `address` to before `past`.
+pub fn is_whole_chain(
+    start: &[u64; POOL],
+    end: &[u64; POOL],
+    next: &[u16; POOL],
+    first: RecordIndex,
+    i: RecordIndex,
+    address: Address,
+    past: Address,
+) -> bool
+    requires { ⌜ ((c : List Range) × (r : Range) × Chosen pool c (now start) (now end) (now next) (first .0) (i .0) r) ⌝ }
+    requires { ⌜ address .0 < past .0 ⌝ }
+    ensures { λ k. ⌜ ((c : List Range) (r : Range) → Chosen pool c (now (start .entry)) (now (end .entry)) (now (next .entry)) (first .0) (i .0) r → k ≡ (whole (address .0) (past .0) r && eqb (length c) 1)) ⌝ }
+{
+    let n = i.0 as usize;
+    if start[n] != address.0 {
+        return false;
+    }
+    if end[n] != past.0 - 1 {
+        return false;
+    }
+    if first.0 != i.0 {
+        return false;
+    }
+    next[n] == NONE
 }

@@ -56,12 +56,6 @@ ends-test i n e a b d = ⊎-elim
 pub no-end : (i n e a : ℕ) → i < n → a ≡ 0 → false ≡ (ltb i n && eqb (suc e) a)
 no-end i n e a b d = rw (lt-ltb i n b, ne-eqb (suc e) a (λ q. let v : ⊥ = omega arith in v))
 
-pub no-index : (i n : ℕ) (w : Bool) → n ≤ i → false ≡ (ltb i n && w)
-no-index i n w b = rw (le-ltb i n b)
-
-pub starts-test : (i n : ℕ) (w : Bool) → i < n → w ≡ (ltb i n && w)
-starts-test i n w b = rw (lt-ltb i n b)
-
 -- ---- totals
 
 spare : (x y : ℕ) → y ≤ x → (x - y) + y ≡ x

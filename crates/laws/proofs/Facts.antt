@@ -83,11 +83,11 @@ up-top o x h g =
 
 -- ---- a reserve with an order is the plain reserve of the widened range
 
-down-plain : (x : ℕ) → down 0 x ≡ x
+pub down-plain : (x : ℕ) → down 0 x ≡ x
 unfolding down
 down-plain x = omega arith
 
-up-plain : (x : ℕ) → up 0 x ≡ x
+pub up-plain : (x : ℕ) → up 0 x ≡ x
 unfolding up
 up-plain x = omega arith
 

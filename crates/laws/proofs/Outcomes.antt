@@ -59,7 +59,7 @@ reserved n b s z o k h (some r) f = line n b (Reserve s z o) 1 tt _ _ (λ u. lin
   room = has-room n b (splits (down o s) (up o (s + z)) r) t;
 })))
 
-clear : (a t : ℕ) (b : Book) → T (not (any (meets a t) (b .chain))) → (q : Range) → In q (b .chain) → (suc (q .last) ≤ a) ⊎ (t ≤ q .start)
+pub clear : (a t : ℕ) (b : Book) → T (not (any (meets a t) (b .chain))) → (q : Range) → In q (b .chain) → (suc (q .last) ≤ a) ⊎ (t ≤ q .start)
 clear a t b h q i = elim (T-or-not (ltb (q .start) t)) [
   | inr g ↦ inr (nltb→le (q .start) t g)
   | inl g ↦ elim (T-or-not (leb a (q .last))) [

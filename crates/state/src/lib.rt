@@ -8,6 +8,11 @@ pub const LISTS: usize = 12;
 // What a link holds where there is none.
 pub const NONE: u16 = 65535;
 
+// Addresses stop here; no order is above this.
+pub const TOP: u64 = 9223372036854775808;
+
+pub const MAX_ORDER: u64 = 63;
+
 pub struct RecordIndex(pub u16);
 
 pub struct ListIndex(pub u8);

@@ -1,4 +1,5 @@
-use Rattle.give.proofs.Joining.{no-index, no-end, ends-test}
+use Rattle.give.proofs.Joining.{no-end, ends-test}
+use Rattle.chain.proofs.Overlap.{no-index}
 use borrow.Author.Needs.{needs}
 use Rattle.give.proofs.ends_before.Statement.{statement}
 use Rattle.give.proofs.ends_before.Tie as tie

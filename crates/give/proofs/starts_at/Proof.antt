@@ -1,4 +1,4 @@
-use Rattle.give.proofs.Joining.{no-index, starts-test}
+use Rattle.chain.proofs.Overlap.{no-index, at-index}
 use borrow.Author.Needs.{needs}
 use Rattle.give.proofs.starts_at.Statement.{statement}
 use Rattle.give.proofs.starts_at.Tie as tie
@@ -16,7 +16,7 @@ element-copy-out-result : tie.Need-element-copy-out-result
 element-copy-out-result c = search needs
 
 returns-2 : tie.Need-returns-2
-returns-2 c = starts-test _ _ _ (c .before .before .if1 .left)
+returns-2 c = at-index _ _ _ (c .before .before .if1 .left)
 
 pub starts-at-spec : {M : Type 1} → statement M
 starts-at-spec = tie.close (tie.spec cast-n returns mul-result element-copy-out-result returns-2)
