@@ -27,12 +27,12 @@ use Rattle.state.specs.State.{arrays, Holds, inRecord, startIn, lastIn, 
 use Rattle.state.specs.declared.MemoryAllocator.{MemoryAllocator}
 use Rattle.state.proofs.Walks.{has-in, fresh-numbers}
 
-by-tab : {A : Type 0} (d : A) (n : ℕ) (xs : List A) (f : ℕ → A) → length xs ≡ n → ((i : ℕ) → i < n → getD xs i d ≡ f i) → xs ≡ tab n 0 f
+pub by-tab : {A : Type 0} (d : A) (n : ℕ) (xs : List A) (f : ℕ → A) → length xs ≡ n → ((i : ℕ) → i < n → getD xs i d ≡ f i) → xs ≡ tab n 0 f
 by-tab d n xs f len h =
     ext-getD d xs (tab n 0 f) (len ∙ sym (length-tab n 0 f))
     (λ i b. let b′ : i < n = omega arith in h i b′ ∙ sym (getD-tab n 0 i f d b′ ∙ ap f (zero-add i)))
 
-at-tab : {A : Type 0} (d : A) (n : ℕ) (f : ℕ → A) (i : ℕ) → i < n → getD (tab n 0 f) i d ≡ f i
+pub at-tab : {A : Type 0} (d : A) (n : ℕ) (f : ℕ → A) (i : ℕ) → i < n → getD (tab n 0 f) i d ≡ f i
 at-tab d n f i b = getD-tab n 0 i f d b ∙ ap f (zero-add i)
 
 -- ---- the state is the one

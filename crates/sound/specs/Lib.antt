@@ -1,0 +1,4 @@
+-- What the contracts cite of the check.
+pub mod Walk
+pub mod IsSound
+pub mod Paragraph
