@@ -1,0 +1,6 @@
+-- What the contracts cite. Fields, Script and Answers are the document's words; Search and Steps say what the smaller functions do.
+pub mod Search
+pub mod Fields
+pub mod Script
+pub mod Answers
+pub mod Steps

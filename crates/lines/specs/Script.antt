@@ -1,0 +1,44 @@
+-- A line of the script: `f start size`, `a size order`, `r start size order`, `l`, at most 80 bytes; any other line is bad.
+use Prim.Native.Nat.{ℕ}
+use mathlib.Core.Bool.{cond}
+use mathlib.Core.List.{List, [], _∷_}
+use mathlib.Core.Option.{Option, none, some}
+use lib.Dec.{leb, eqb}
+use lib.ListN.{length}
+use Rattle.rules.specs.Rules as Rules
+use Rattle.lines.specs.Fields.{fields, numbersOf}
+use Rattle.lines.specs.declared.parse.Line.{Line}
+use Rattle.lines.specs.declared.parse.Line.the-variants as Say
+
+-- the byte of a field of one byte; 0, which is no letter, of any other
+abbrev pub letterOf : List ℕ → ℕ
+letterOf [] = 0
+letterOf (b ∷ []) = b
+letterOf (b ∷ c ∷ l) = 0
+
+-- a letter and its numbers: 97 is `a`, 102 `f`, 108 `l`, 114 `r`
+unfoldable pub said : ℕ → List ℕ → Line
+said c [] = cond (eqb c 108) Say.List Say.Bad
+said c (x ∷ []) = Say.Bad
+said c (x ∷ y ∷ []) = cond (eqb c 102) (Say.Free x y) (cond (eqb c 97) (Say.Allocate x y) Say.Bad)
+said c (x ∷ y ∷ z ∷ []) = cond (eqb c 114) (Say.Reserve x y z) Say.Bad
+said c (x ∷ y ∷ z ∷ w ∷ l) = Say.Bad
+
+unfoldable pub spoken : ℕ → Option (List ℕ) → Line
+spoken c none = Say.Bad
+spoken c (some ns) = said c ns
+
+abbrev pub lineOfFields : List (List ℕ) → Line
+lineOfFields [] = Say.Bad
+lineOfFields (name ∷ fs) = spoken (letterOf name) (numbersOf fs)
+
+unfoldable pub lineOf : List ℕ → Line
+lineOf l = cond (leb (length l) 80) (lineOfFields (fields l)) Say.Bad
+
+-- the rules' call of a line that is one
+abbrev pub callOf : Line → Option Rules.Call
+callOf (Say.Free s z) = some (Rules.Free s z)
+callOf (Say.Allocate z o) = some (Rules.Allocate z o)
+callOf (Say.Reserve s z o) = some (Rules.Reserve s z o)
+callOf Say.List = none
+callOf Say.Bad = none

@@ -1,0 +1,2 @@
+-- Laws of the promises.
+pub mod Judged

@@ -1,0 +1,2 @@
+-- What the allocator promises.
+pub mod Promises
