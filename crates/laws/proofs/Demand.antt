@@ -4,10 +4,10 @@ use mathlib.Core.Bool.{Bool, false, not}
 use mathlib.Core.List.{List, map}
 use Prim.Native.Nat.{ℕ}
 use lib.Dec.{T}
-use Rattle.rules.specs.Rules.{top, sizeLists, Range, size, Book, empty, total, span, listing, any, freeAt, Call, Answer, step, run, Event, trail, frees, covers, lastCovering, said, count, back, tally, lists}
+use Rattle.rules.specs.Rules.{top, sizeLists, Range, size, Book, empty, total, span, listing, any, freeAt, Call, Answer, step, run, voucher, trail, frees, covers, lastCovering, said, count, back, tally, lists}
 use Rattle.rules.specs.Sound.{Sound}
 use Rattle.laws.proofs.Kept.{empty-sound}
-use Rattle.laws.proofs.History.{run-sound, run-free, step-covers}
+use Rattle.laws.proofs.History.{step-sound, run-sound, run-free, step-covers}
 use Rattle.laws.proofs.Bytes.{sound-total, sound-same}
 use Rattle.laws.proofs.Shelf.{twelve, same-shelf}
 use Rattle.laws.proofs.HandBack.{step-back}
@@ -19,6 +19,9 @@ after n cs = run n empty cs
 pub always-sound : (n : ℕ) (cs : List Call) → Sound n (after n cs)
 always-sound n cs = run-sound n empty cs (empty-sound n)
 
+pub step-keeps : (n : ℕ) (b : Book) (c : Call) → Sound n b → Sound n (step n c b .book)
+step-keeps n b c s = step-sound n b c s
+
 -- a byte is free exactly if the last accepted call covering it was a free,
 pub free-bytes : (n : ℕ) (cs : List Call) (x : ℕ) → freeAt (after n cs) x ≡ said false (lastCovering x (trail n empty cs))
 unfolding freeAt any
@@ -29,7 +32,7 @@ pub total-counts : (n : ℕ) (cs : List Call) → total (after n cs) ≡ count t
 total-counts n cs = sound-total n (after n cs) (always-sound n cs)
 
 -- An accepted take covers only free bytes, an accepted free none.
-pub covers-only : (n : ℕ) (cs : List Call) (c : Call) (x : ℕ) → T (covers (record { call = c; answer = step n c (after n cs) }) x) → freeAt (after n cs) x ≡ not (frees c)
+pub covers-only : (n : ℕ) (cs : List Call) (c : Call) (x : ℕ) → T (covers (voucher c (step n c (after n cs))) x) → freeAt (after n cs) x ≡ not (frees c)
 covers-only n cs c x t = step-covers n (after n cs) c (always-sound n cs) x t
 
 -- Two such lists of calls that leave the same bytes free leave the same ranges;

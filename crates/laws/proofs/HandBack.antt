@@ -101,7 +101,7 @@ module _ (n : ℕ) (b : Book) (r : Range) (a t : ℕ) (s : Sound n b) (k : Takes
 after-back : (n : ℕ) (b : Book) (c : Call) → Sound n b → (w : Answer) → Outcome n b c w → T (not (frees c)) → w .number ≡ 0
     → (step n (back c (w .address)) (w .book) .number ≡ 0) × (listing (step n (back c (w .address)) (w .book) .book) ≡ listing b)
 unfolding step
-after-back n b c s _ (refusal k h) f e = absurd (h e)
+after-back n b c s _ (refusal k h m) f e = absurd (h e)
 after-back n b c s _ (took x r g h) f e = handed n b r (from c x) (past c x) s h
 after-back n b c s _ (gave g h) f e = absurd (T-no (frees c) f g)
 

@@ -7,7 +7,7 @@ use mathlib.Core.Option.{Option, none, some}
 use Prim.Native.Nat.{ℕ, zero, suc, _+_, _-_, _≤_, _<_}
 use native.Mathlib.Omega.{arith}
 use lib.Dec.{T, leb, ltb, eqb, leb→le, nleb→lt, le→leb, lt→ltb, ltb→lt, nltb→le, eqb→eq, eqb-refl, not-T}
-use Rattle.rules.specs.Rules.{top, Range, Book, empty, any, freeAt, taken, given, Answer, accepted, refused, Call, Free, Allocate, Reserve, step, run, Event, trail, frees, from, past, covers, lastCovering, said}
+use Rattle.rules.specs.Rules.{top, Range, Book, empty, any, freeAt, taken, given, Answer, accepted, refused, Call, Free, Allocate, Reserve, step, run, Voucher, voucher, trail, frees, from, past, covers, lastCovering, said}
 use Rattle.rules.specs.Sound.{In}
 use Rattle.laws.proofs.Lists.{if, and-l, and-r, and-i, T-no, T-or-not, T-true, T-false, same-test}
 use Rattle.rules.specs.Sound.{Sound}
@@ -17,12 +17,9 @@ use Rattle.laws.proofs.Outcomes.{Outcome, refusal, took, gave, outcome}
 -- ---- one call
 
 after-sound : (n : ℕ) (b : Book) (c : Call) → Sound n b → (w : Answer) → Outcome n b c w → Sound n (w .book)
-after-sound n b c s _ (refusal k h) = s
+after-sound n b c s _ (refusal k h m) = s
 after-sound n b c s _ (took x r f h) = taken-sound n b r (from c x) (past c x) s h
 after-sound n b c s _ (gave f h) = given-sound n b (from c 0) (past c 0) s h
-
-abbrev event : Call → Answer → Event
-event c w = record { call = c; answer = w }
 
 abbrev inside : ℕ → ℕ → ℕ → Bool
 inside a t x = leb a x && ltb x t
@@ -43,9 +40,9 @@ is-false : (p : Bool) → (T p → ⊥) → p ≡ false
 is-false p f = T-false p (not-T p f)
 
 after-free : (n : ℕ) (b : Book) (c : Call) → Sound n b → (w : Answer) → Outcome n b c w → (x : ℕ)
-    → freeAt (w .book) x ≡ cond (covers (event c w) x) (frees c) (freeAt b x)
-after-free n b c s _ (refusal k h) x =
-    if (covers (event c (refused k b)) x) (λ y. freeAt b x ≡ y) (λ t. absurd (h (eqb→eq k 0 (and-l (eqb k 0) (inside (from c 0) (past c 0) x) t)))) (λ t. refl)
+    → freeAt (w .book) x ≡ cond (covers (voucher c w) x) (frees c) (freeAt b x)
+after-free n b c s _ (refusal k h m) x =
+    if (covers (voucher c (refused k b)) x) (λ y. freeAt b x ≡ y) (λ t. absurd (h (eqb→eq k 0 (and-l (eqb k 0) (inside (from c 0) (past c 0) x) t)))) (λ t. refl)
 after-free n b c s _ (took y r f h) x =
     if (inside (from c y) (past c y) x) (λ v. freeAt (taken n r (from c y) (past c y) b) x ≡ v)
     (λ t. is-false (freeAt (taken n r (from c y) (past c y) b) x) (λ p. elim (taken-free→ n b r (from c y) (past c y) s h x p .1) [
@@ -61,8 +58,8 @@ after-free n b c s _ (gave f h) x =
     (λ p. given-free← n b (from c 0) (past c 0) s h x (inl p)))
 
 -- an accepted take covers only free bytes, an accepted free none
-after-covers : (n : ℕ) (b : Book) (c : Call) → Sound n b → (w : Answer) → Outcome n b c w → (x : ℕ) → T (covers (event c w) x) → freeAt b x ≡ not (frees c)
-after-covers n b c s _ (refusal k h) x t = absurd (h (eqb→eq k 0 (and-l (eqb k 0) (inside (from c 0) (past c 0) x) t)))
+after-covers : (n : ℕ) (b : Book) (c : Call) → Sound n b → (w : Answer) → Outcome n b c w → (x : ℕ) → T (covers (voucher c w) x) → freeAt b x ≡ not (frees c)
+after-covers n b c s _ (refusal k h m) x t = absurd (h (eqb→eq k 0 (and-l (eqb k 0) (inside (from c 0) (past c 0) x) t)))
 after-covers n b c s _ (took y r f h) x t = let i = inside→ (from c y) (past c y) x t in
     T-true (freeAt b x) (free← b x r (h .member) (omega (arith, h .from)) (omega (arith, h .to))) ∙ sym (T-true (not (frees c)) f)
 after-covers n b c s _ (gave f h) x t = let i = inside→ (from c 0) (past c 0) x t in
@@ -79,7 +76,7 @@ run-sound n b [] s = s
 run-sound n b (c ∷ cs) s = run-sound n (step n c b .book) cs (step-sound n b c s)
 
 -- a call more, before the others
-earlier : (e : Event) (x : ℕ) (d : Bool) (m : Option Event)
+earlier : (e : Voucher) (x : ℕ) (d : Bool) (m : Option Voucher)
     → said (cond (covers e x) (frees (e .call)) d) m ≡ said d (elim m [ none ↦ cond (covers e x) (some e) none | some f ↦ some f ])
 earlier e x d none = if (covers e x) (λ o. said (cond (covers e x) (frees (e .call)) d) none ≡ said d o) (λ t. rw (T-true (covers e x) t)) (λ t. rw (T-false (covers e x) t))
 earlier e x d (some f) = refl
@@ -87,10 +84,10 @@ earlier e x d (some f) = refl
 pub run-free : (n : ℕ) (b : Book) (cs : List Call) → Sound n b → (x : ℕ) → freeAt (run n b cs) x ≡ said (freeAt b x) (lastCovering x (trail n b cs))
 unfolding run trail lastCovering
 run-free n b [] s x = refl
-run-free n b (c ∷ cs) s x = let e = event c (step n c b) in let b′ = step n c b .book in
+run-free n b (c ∷ cs) s x = let e = voucher c (step n c b) in let b′ = step n c b .book in
     run-free n b′ cs (step-sound n b c s) x
     ∙ (ap (λ (d : Bool). said d (lastCovering x (trail n b′ cs))) (after-free n b c s (step n c b) (outcome n b c s) x)
     ∙ earlier e x (freeAt b x) (lastCovering x (trail n b′ cs)))
 
-pub step-covers : (n : ℕ) (b : Book) (c : Call) → Sound n b → (x : ℕ) → T (covers (record { call = c; answer = step n c b }) x) → freeAt b x ≡ not (frees c)
+pub step-covers : (n : ℕ) (b : Book) (c : Call) → Sound n b → (x : ℕ) → T (covers (voucher c (step n c b)) x) → freeAt b x ≡ not (frees c)
 step-covers n b c s = after-covers n b c s (step n c b) (outcome n b c s)

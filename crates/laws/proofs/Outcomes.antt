@@ -10,7 +10,7 @@ use native.Mathlib.Nat.{div-add-mod', mod-lt, div-mul-le-self}
 use lib.Pow.{pow-pos}
 use lib.ListN.{length}
 use lib.Dec.{T, leb, ltb, eqb, leb→le, nleb→lt, le→leb, lt→ltb, ltb→lt, nltb→le, eqb→eq, eqb-refl}
-use Rattle.rules.specs.Rules.{top, Range, Book, total, down, up, any, find, unused, full, meets, contains, splits, whole, fits, taken, lower, upper, given, alone, Answer, accepted, refused, refuse, allocateFrom, allocate, reserveFrom, reserve, free, Call, Free, Allocate, Reserve, step, Event, frees, from, past, covers}
+use Rattle.rules.specs.Rules.{top, Range, Book, total, down, up, any, find, unused, full, meets, contains, splits, whole, fits, taken, lower, upper, given, alone, Answer, accepted, refused, refuse, allocateFrom, allocate, reserveFrom, reserve, free, Call, Free, Allocate, Reserve, step, frees, from, past, covers}
 use Rattle.rules.specs.Sound.{In}
 use Rattle.laws.proofs.Lists.{if, and-l, and-r, and-i, not-and, T-no, T-or-not, neq, any←, Found, found}
 use Rattle.rules.specs.Sound.{Sound}
@@ -25,20 +25,20 @@ unfolding up
 le-up o x = omega (arith, div-add-mod' (x + (2 ^ o - 1)) (2 ^ o), mod-lt (x + (2 ^ o - 1)) (pow-pos o))
 
 pub data Outcome (n : ℕ) (b : Book) (c : Call) : Answer → Type 0 where
-  refusal : (k : ℕ) → k ≢ 0 → Outcome n b c (refused k b)
+  refusal : (k : ℕ) → k ≢ 0 → k ≤ 4 → Outcome n b c (refused k b)
   took : (x : ℕ) (r : Range) → T (not (frees c)) → Takes n b r (from c x) (past c x) → Outcome n b c (accepted x (taken n r (from c x) (past c x) b))
   gave : T (frees c) → Gives n b (from c 0) (past c 0) → Outcome n b c (accepted 0 (given n (from c 0) (past c 0) b))
 
-line : (n : ℕ) (b : Book) (c : Call) (k : ℕ) → T (ltb 0 k) → (q : Bool) (w : Answer) → (T (not q) → Outcome n b c w) → Outcome n b c (refuse q k b w)
+line : (n : ℕ) (b : Book) (c : Call) (k : ℕ) → T (ltb 0 k && leb k 4) → (q : Bool) (w : Answer) → (T (not q) → Outcome n b c w) → Outcome n b c (refuse q k b w)
 unfolding refuse
-line n b c k h q w f = if q (λ a. Outcome n b c a) (λ t. let g = ltb→lt 0 k h in refusal k (omega arith)) f
+line n b c k h q w f = if q (λ a. Outcome n b c a) (λ t. let g = ltb→lt 0 k (and-l (ltb 0 k) (leb k 4) h) in refusal k (omega arith) (leb→le k 4 (and-r (ltb 0 k) (leb k 4) h))) f
 
 has-room : (n : ℕ) (b : Book) (q : Bool) → T (not (q && full n b)) → T q → unused n b < n
 has-room n b q t h = nleb→lt n (unused n b) (not-and q (full n b) t h)
 
 allocated : (n : ℕ) (b : Book) (z o : ℕ) → Sound n b → z ≢ 0 → (m : Option Range) → Found (fits z o) (b .shelf) m → Outcome n b (Allocate z o) (allocateFrom n z o b m)
 unfolding allocateFrom
-allocated n b z o s h none f = refusal 3 (omega arith)
+allocated n b z o s h none f = refusal 3 (omega arith) (omega arith)
 allocated n b z o s h (some r) f = line n b (Allocate z o) 1 tt _ _ (λ t. took (up o (r .start)) r tt (record {
   member = s .same r .1 (f .0);
   from = le-up o (r .start);
@@ -50,7 +50,7 @@ allocated n b z o s h (some r) f = line n b (Allocate z o) 1 tt _ _ (λ t. took 
 reserved : (n : ℕ) (b : Book) (s z o : ℕ) → Sound n b → z ≢ 0 → (m : Option Range) → Found (contains (down o s) (up o (s + z))) (b .chain) m
     → Outcome n b (Reserve s z o) (reserveFrom n (down o s) (up o (s + z)) b m)
 unfolding reserveFrom
-reserved n b s z o k h none f = refusal 4 (omega arith)
+reserved n b s z o k h none f = refusal 4 (omega arith) (omega arith)
 reserved n b s z o k h (some r) f = line n b (Reserve s z o) 1 tt _ _ (λ u. line n b (Reserve s z o) 1 tt _ _ (λ t. took 0 r tt (record {
   member = f .0;
   from = leb→le (r .start) (down o s) (and-l (leb (r .start) (down o s)) (leb (up o (s + z)) (suc (r .last))) (f .1));

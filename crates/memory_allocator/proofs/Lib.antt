@@ -1,2 +1,4 @@
--- Laws of the promises.
+-- Laws of the promises; Demand states demand 3 for the by-value calls.
 pub mod Judged
+pub mod Steps
+pub mod Demand

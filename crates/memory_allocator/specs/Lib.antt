@@ -1,2 +1,3 @@
--- What the allocator promises.
+-- What the allocator promises, and what its lists of calls leave.
 pub mod Promises
+pub mod Histories

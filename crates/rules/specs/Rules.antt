@@ -240,14 +240,19 @@ unfoldable pub run : ℕ → Book → List Call → Book
 run n b [] = b
 run n b (c ∷ cs) = run n (step n c b .book) cs
 
--- each call with its answer, oldest first
-pub record Event : Type 0 where
+-- what is kept of a call and its answer
+pub record Voucher : Type 0 where
   pub call : Call
-  pub answer : Answer
+  pub number : ℕ
+  pub address : ℕ
 
-unfoldable pub trail : ℕ → Book → List Call → List Event
+abbrev pub voucher : Call → Answer → Voucher
+voucher c w = record { call = c; number = w .number; address = w .address }
+
+-- those of a list of calls, oldest first
+unfoldable pub trail : ℕ → Book → List Call → List Voucher
 trail n b [] = []
-trail n b (c ∷ cs) = record { call = c; answer = step n c b } ∷ trail n (step n c b .book) cs
+trail n b (c ∷ cs) = voucher c (step n c b) ∷ trail n (step n c b .book) cs
 
 abbrev pub frees : Call → Bool
 frees (Free s z) = true
@@ -266,17 +271,17 @@ past (Allocate z o) x = x + z
 past (Reserve s z o) x = up o (s + z)
 
 -- the call was accepted, and covers the byte x
-abbrev pub covers : Event → ℕ → Bool
-covers e x = eqb (e .answer .number) 0 && (leb (from (e .call) (e .answer .address)) x && ltb x (past (e .call) (e .answer .address)))
+abbrev pub covers : Voucher → ℕ → Bool
+covers v x = eqb (v .number) 0 && (leb (from (v .call) (v .address)) x && ltb x (past (v .call) (v .address)))
 
-unfoldable pub lastCovering : ℕ → List Event → Option Event
+unfoldable pub lastCovering : ℕ → List Voucher → Option Voucher
 lastCovering x [] = none
-lastCovering x (e ∷ es) = elim (lastCovering x es) [ none ↦ cond (covers e x) (some e) none | some d ↦ some d ]
+lastCovering x (v ∷ vs) = elim (lastCovering x vs) [ none ↦ cond (covers v x) (some v) none | some d ↦ some d ]
 
 -- whether that call was a free; without one, what is said from the first
-abbrev pub said : Bool → Option Event → Bool
+abbrev pub said : Bool → Option Voucher → Bool
 said d none = d
-said d (some e) = frees (e .call)
+said d (some v) = frees (v .call)
 
 -- how many numbers below m pass the test
 unfoldable pub count : ℕ → (ℕ → Bool) → ℕ

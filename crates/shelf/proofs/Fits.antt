@@ -30,9 +30,6 @@ fits-left z f whole s last hz h e = same-test (leb z (s + whole - f)) (leb (f + 
 abbrev pub mark : (Range → Bool) → Range → ℕ
 mark p r = cond (p r) 1 0
 
-pub mark-on : (p : Range → Bool) (r : Range) → p r ≡ true → 1 ≤ mark p r
-mark-on p r e = rw e (lit≤ tt)
-
 pub mark-off : (p : Range → Bool) (r : Range) → p r ≡ false → mark p r < 1
 mark-off p r e = rw e (lit≤ tt)
 

@@ -117,7 +117,7 @@ module _ (n : ℕ) (small : n ≤ none) (key : Range → ℕ) (l : List Range) (
     pub stands-good : Good n (at start end a)
     stands-good = rw stands-at (t .good (w .here) stands-in)
 
-    rest-next : getD next a 0 ≡ head (numbers (w .high))
+    pub rest-next : getD next a 0 ≡ head (numbers (w .high))
     rest-next =
         rw (w .at-here)
         (t .nexts (w .here) stands-in

@@ -1,0 +1,2 @@
+-- Laws of the total and the listing.
+pub mod Shows

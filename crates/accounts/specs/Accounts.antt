@@ -1,0 +1,41 @@
+-- The total and the listing of a state. n is the number of records. Assumes nothing.
+use Prim.Native.Nat.{ℕ}
+use mathlib.Core.Bool.{Bool, cond}
+use mathlib.Core.List.{List}
+use mathlib.Core.Path.{_≡_}
+use lib.ListN.{length}
+use Rattle.rules.specs.Rules as rules
+use Rattle.rules.specs.Rules.{Range, startOf}
+use Rattle.state.specs.Sound.{bookOf}
+use Rattle.state.specs.declared.MemoryAllocator.{MemoryAllocator}
+use Rattle.sound.specs.IsSound.{isSound}
+use Rattle.listing.specs.Listing.{lastOf, short, shown}
+use Rattle.calls.specs.declared.Answer.{Answer}
+use Rattle.calls.specs.declared.Answer.the-variants.{Accepted, InvalidEntry, InvalidRequest}
+use Rattle.accounts.specs.declared.Counted.{Counted}
+
+abbrev pub counted : ℕ → Counted
+counted v = record { answer = Accepted (record { 0 = 0 }); value = v }
+
+-- a refusal has no value
+abbrev pub refused : Answer → Counted
+refused k = record { answer = k; value = 0 }
+
+unfoldable pub totalOf : ℕ → MemoryAllocator → Counted
+totalOf n s = cond (isSound n s) (counted (rules.total (bookOf n s))) (refused InvalidEntry)
+
+-- the number of ranges, if both slices have room for as many
+unfoldable pub listingOf : ℕ → MemoryAllocator → ℕ → ℕ → Counted
+listingOf n s m k =
+    cond (isSound n s)
+    (cond (short (bookOf n s .chain) m k) (refused InvalidRequest) (counted (length (bookOf n s .chain))))
+    (refused InvalidEntry)
+
+-- what a slice then holds: the ranges' figures in its first places, and the old contents past them, or everywhere after a refusal
+unfoldable pub shownOf : (Range → ℕ) → ℕ → MemoryAllocator → ℕ → ℕ → List ℕ → List ℕ
+shownOf key n s m k old = cond (isSound n s) (shown key (bookOf n s .chain) m k old) old
+
+pub record Lists (n : ℕ) (s : MemoryAllocator) (starts lasts : List ℕ) (r : Counted) (starts′ lasts′ : List ℕ) : Type 0 where
+  pub answer : r ≡ listingOf n s (length starts) (length lasts)
+  pub starts-now : starts′ ≡ shownOf startOf n s (length starts) (length lasts) starts
+  pub lasts-now : lasts′ ≡ shownOf lastOf n s (length starts) (length lasts) lasts

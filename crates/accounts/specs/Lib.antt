@@ -1,0 +1,2 @@
+-- What the total and the listing promise.
+pub mod Accounts

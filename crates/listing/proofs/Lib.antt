@@ -1,0 +1,4 @@
+-- Laws of the listing.
+pub mod Answers
+pub mod Walk
+pub mod Writing

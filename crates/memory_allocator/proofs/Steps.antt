@@ -1,0 +1,70 @@
+-- A call on the state that holds a sound book is the rule's on that book. Assumes nothing.
+use Prim.Native.Nat.{ℕ, zero, suc, _≤_}
+use mathlib.Core.Bool.{Bool, true, false, cond}
+use mathlib.Core.Logic.{_≢_}
+use mathlib.Core.List.{List, [], _∷_}
+use mathlib.Core.Path.{_≡_, refl, sym, ap, _∙_, subst}
+use native.Mathlib.Omega.{arith}
+use Rattle.lists.specs.Links.{none}
+use Rattle.rules.specs.Rules.{Book, Answer, Call, Free, Allocate, Reserve, step, run, Voucher, voucher, trail, freeAt}
+use Rattle.rules.specs.Sound.{Sound}
+use Rattle.laws.proofs.Outcomes.{Outcome, refusal, took, gave, outcome}
+use Rattle.laws.proofs.History.{step-sound}
+use Rattle.state.specs.State.{stateOf}
+use Rattle.state.specs.Sound.{bookOf, SoundState}
+use Rattle.state.specs.declared.MemoryAllocator.{MemoryAllocator}
+use Rattle.state.proofs.States.{state-holds}
+use Rattle.state.proofs.Book.{book-back, holds-sound}
+use Rattle.sound.specs.IsSound.{isSound}
+use Rattle.sound.proofs.Exact.{sound-passes}
+use Rattle.calls.specs.Answers.{numberOf, addressOf}
+use Rattle.memory_allocator.specs.Promises.{answerOf, held, judged}
+use Rattle.memory_allocator.specs.Histories.{made, after, voucherOf, vouchers}
+use Rattle.memory_allocator.specs.declared.Outcome as result
+
+-- the numbers and addresses of the rules' answers are kept
+kept : (k a : ℕ) → k ≢ 0 → k ≤ 4 → (numberOf (answerOf k 0) ≡ k) × (addressOf (answerOf k 0) ≡ 0)
+kept zero a d h = absurd (d refl)
+kept (suc zero) a d h = (refl, refl)
+kept (suc (suc zero)) a d h = (refl, refl)
+kept (suc (suc (suc zero))) a d h = (refl, refl)
+kept (suc (suc (suc (suc zero)))) a d h = (refl, refl)
+kept (suc (suc (suc (suc (suc k))))) a d h = absurd (let v : ⊥ = omega arith in v)
+
+numbered : (n : ℕ) (b : Book) (c : Call) (w : Answer) → Outcome n b c w → (numberOf (answerOf (w .number) (w .address)) ≡ w .number) × (addressOf (answerOf (w .number) (w .address)) ≡ w .address)
+numbered n b c _ (refusal k h m) = kept k 0 h m
+numbered n b c _ (took x r f h) = (refl, refl)
+numbered n b c _ (gave f h) = (refl, refl)
+
+module _ (n : ℕ) (small : n ≤ none) where
+  pub stands : (b : Book) → Sound n b → isSound n (stateOf n b) ≡ true
+  stands b s = sound-passes n small (stateOf n b) (holds-sound n small b (stateOf n b) (state-holds n b s))
+
+  judged-held : (rule : Book → Answer) (b : Book) → Sound n b → judged n rule (stateOf n b) ≡ held n (rule b)
+  unfolding judged
+  judged-held rule b s = rw (stands b s) (ap (λ (x : Book). held n (rule x)) (book-back n small b s))
+
+  pub made-held : (b : Book) (c : Call) → Sound n b → made n (stateOf n b) c ≡ held n (step n c b)
+  unfolding step
+  made-held b (Free a z) s = judged-held _ b s
+  made-held b (Allocate z o) s = judged-held _ b s
+  made-held b (Reserve a z o) s = judged-held _ b s
+
+  pub made-voucher : (b : Book) (c : Call) → Sound n b → voucherOf c (made n (stateOf n b) c) ≡ voucher c (step n c b)
+  made-voucher b c s =
+      let e = numbered n b c (step n c b) (outcome n b c s) in
+      let e₁ = e .0 in let e₂ = e .1 in
+      ap (voucherOf c) (made-held b c s) ∙ (λ z. record { call = c; number = e₁ z; address = e₂ z })
+
+  pub after-run : (b : Book) (cs : List Call) → Sound n b → after n (stateOf n b) cs ≡ stateOf n (run n b cs)
+  unfolding after run
+  after-run b [] s = refl
+  after-run b (c ∷ cs) s = ap (λ (r : result.Outcome). after n (r .state) cs) (made-held b c s) ∙ after-run (step n c b .book) cs (step-sound n b c s)
+
+  pub vouchers-trail : (b : Book) (cs : List Call) → Sound n b → vouchers n (stateOf n b) cs ≡ trail n b cs
+  unfolding vouchers trail
+  vouchers-trail b [] s = refl
+  vouchers-trail b (c ∷ cs) s =
+      let e = made-voucher b c s in
+      let f = ap (λ (r : result.Outcome). vouchers n (r .state) cs) (made-held b c s) ∙ vouchers-trail (step n c b .book) cs (step-sound n b c s) in
+      (λ z. e z ∷ f z)

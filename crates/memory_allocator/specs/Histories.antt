@@ -1,0 +1,33 @@
+-- Lists of calls made on a state, and their vouchers. n is the number of records. Assumes nothing.
+use Prim.Native.Nat.{ℕ}
+use mathlib.Core.Bool.{Bool}
+use mathlib.Core.List.{List, [], _∷_}
+use Rattle.rules.specs.Rules.{Call, Free, Allocate, Reserve, Voucher, freeAt}
+use Rattle.state.specs.Sound.{bookOf}
+use Rattle.state.specs.declared.MemoryAllocator.{MemoryAllocator}
+use Rattle.calls.specs.Answers.{numberOf, addressOf}
+use Rattle.memory_allocator.specs.Promises.{allocateOf, reserveOf, freeOf}
+use Rattle.memory_allocator.specs.declared.Outcome.{Outcome}
+
+-- what a call answers and leaves
+abbrev pub made : ℕ → MemoryAllocator → Call → Outcome
+made n s (Free a z) = freeOf n s a z
+made n s (Allocate z o) = allocateOf n s z o
+made n s (Reserve a z o) = reserveOf n s a z o
+
+-- the state that a list of calls leaves
+unfoldable pub after : ℕ → MemoryAllocator → List Call → MemoryAllocator
+after n s [] = s
+after n s (c ∷ cs) = after n (made n s c .state) cs
+
+abbrev pub voucherOf : Call → Outcome → Voucher
+voucherOf c r = record { call = c; number = numberOf (r .answer); address = addressOf (r .answer) }
+
+-- their vouchers, oldest first
+unfoldable pub vouchers : ℕ → MemoryAllocator → List Call → List Voucher
+vouchers n s [] = []
+vouchers n s (c ∷ cs) = voucherOf c (made n s c) ∷ vouchers n (made n s c .state) cs
+
+-- the byte x lies in a range that the state's links lead to
+abbrev pub freeIn : ℕ → MemoryAllocator → ℕ → Bool
+freeIn n s x = freeAt (bookOf n s) x

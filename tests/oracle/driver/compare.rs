@@ -1,0 +1,74 @@
+//! One history played on the port and on the judges side by side, everything compared after every call.
+
+use crate::bench::{Bench, NoRuling, Ruling};
+use crate::broken::Breakage;
+use crate::call::{Answer, Call};
+use crate::domain::Outside;
+use crate::kind::Kind;
+use crate::port::Port;
+
+pub struct Players {
+    pub bench: Bench,
+    port: Port,
+    breakage: Option<Breakage>,
+}
+
+pub enum Played {
+    Agreed {
+        kind: Kind,
+        answer: Answer,
+        with_untouched: bool,
+    },
+    /// Not played; nothing has changed.
+    Outside(Outside),
+    Mismatch(String),
+}
+
+impl Players {
+    /// `breakage`: spoils the port on purpose, to see the comparison notice.
+    pub fn new(breakage: Option<Breakage>) -> Players {
+        Players { bench: Bench::new(), port: Port::new(), breakage }
+    }
+
+    pub fn copy(&self) -> Players {
+        Players { bench: self.bench.copy(), port: self.port.clone(), breakage: self.breakage }
+    }
+
+    pub fn play(&mut self, call: Call) -> Played {
+        let ruling = match self.bench.play(call) {
+            Ok(ruling) => ruling,
+            Err(NoRuling::Outside(why)) => return Played::Outside(why),
+            Err(NoRuling::Quarrel(text)) => return Played::Mismatch(format!("the judges differ at {text}")),
+        };
+        match self.port_follows(call, &ruling) {
+            Ok(()) => {
+                Played::Agreed { kind: ruling.kind, answer: ruling.answer, with_untouched: ruling.with_untouched }
+            }
+            Err(text) => Played::Mismatch(format!("at `{call}` ({}): {text}", ruling.kind.text())),
+        }
+    }
+
+    fn port_follows(&mut self, call: Call, ruling: &Ruling) -> Result<(), String> {
+        let before = self.port.clone();
+        let answer = self.port.play(call);
+        if let (Some(breakage), true) = (self.breakage, answer.is_accepted()) {
+            breakage.spoil(&before, call, &mut self.port);
+        }
+        let rust = if ruling.with_untouched { "the Rust" } else { "the counting copy" };
+        if answer != ruling.answer {
+            let (answer, ruled) = (answer.printed_for(&call), ruling.answer.printed_for(&call));
+            return Err(format!("answer: the port `{answer}`, {rust} `{ruled}`"));
+        }
+        if !answer.is_accepted() && before.image != self.port.image {
+            return Err("the port refused and yet changed bytes of the image".to_string());
+        }
+        let shape = self.port.shape()?;
+        if !shape.same_links(&ruling.shape) {
+            return Err(shape.describe_difference("the port", &ruling.shape, rust));
+        }
+        if shape.total != ruling.shape.total {
+            return Err(format!("total: the port {}, the counting copy {}", shape.total, ruling.shape.total));
+        }
+        Ok(())
+    }
+}

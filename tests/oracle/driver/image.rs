@@ -1,0 +1,97 @@
+//! The byte image of document 01, version 1, read into a shape and written from one.
+
+use crate::shape::{Record, Shape, FRESH, LISTS, NONE, RECORDS};
+
+pub const IMAGE: usize = RECORDS_AT + RECORDS * RECORD;
+
+const VERSION: u8 = 1;
+const REST_AT: usize = 1;
+const TOTAL_AT: usize = 5;
+const FIRST_AT: usize = 13;
+const HEADS_AT: usize = 14;
+const RECORDS_AT: usize = HEADS_AT + LISTS;
+const RECORD: usize = 21;
+const LINK_NONE: u8 = 255;
+
+pub type Image = [u8; IMAGE];
+
+/// The shape an image holds, or what is wrong with its bytes. Soundness of the links is not looked at.
+pub fn read(image: &Image) -> Result<Shape, String> {
+    let rest = u32::from_be_bytes(image[REST_AT..TOTAL_AT].try_into().unwrap());
+    if image[0] != VERSION || rest as usize != IMAGE - TOTAL_AT {
+        return Err(format!("the image begins with version {} and length {rest}", image[0]));
+    }
+    let mut shape = Shape {
+        total: number(image, TOTAL_AT),
+        first: link(image[FIRST_AT]),
+        heads: [NONE; LISTS],
+        records: [FRESH; RECORDS],
+    };
+    for (list, head) in shape.heads.iter_mut().enumerate() {
+        *head = link(image[HEADS_AT + list]);
+    }
+    for (at, record) in shape.records.iter_mut().enumerate() {
+        *record = read_record(&image[RECORDS_AT + at * RECORD..][..RECORD])
+            .map_err(|what| format!("record {at} of the image: {what}"))?;
+    }
+    Ok(shape)
+}
+
+pub fn write(shape: &Shape) -> Image {
+    let mut image = [0; IMAGE];
+    image[0] = VERSION;
+    image[REST_AT..TOTAL_AT].copy_from_slice(&((IMAGE - TOTAL_AT) as u32).to_be_bytes());
+    image[TOTAL_AT..FIRST_AT].copy_from_slice(&shape.total.to_be_bytes());
+    image[FIRST_AT] = link_byte(shape.first);
+    for (list, &head) in shape.heads.iter().enumerate() {
+        image[HEADS_AT + list] = link_byte(head);
+    }
+    for (at, record) in shape.records.iter().enumerate() {
+        let bytes = &mut image[RECORDS_AT + at * RECORD..][..RECORD];
+        bytes[0..8].copy_from_slice(&record.start.to_be_bytes());
+        bytes[8..16].copy_from_slice(&record.end.to_be_bytes());
+        bytes[16] = record.enabled as u8;
+        let links = [record.previous, record.next, record.list_prev, record.list_next];
+        bytes[17..21].copy_from_slice(&links.map(link_byte));
+    }
+    image
+}
+
+fn read_record(bytes: &[u8]) -> Result<Record, String> {
+    let record = Record {
+        enabled: bytes[16] == 1,
+        start: number(bytes, 0),
+        end: number(bytes, 8),
+        previous: link(bytes[17]),
+        next: link(bytes[18]),
+        list_prev: link(bytes[19]),
+        list_next: link(bytes[20]),
+    };
+    match bytes[16] {
+        0 if record != FRESH => Err(format!("unused but not fresh, {record:?}")),
+        0 => Ok(record),
+        1 if record.start > record.end => Err(format!("reversed range, {record:?}")),
+        1 => Ok(record),
+        other => Err(format!("enabled byte {other}")),
+    }
+}
+
+fn number(bytes: &[u8], at: usize) -> u64 {
+    u64::from_be_bytes(bytes[at..at + 8].try_into().unwrap())
+}
+
+fn link(byte: u8) -> u16 {
+    if byte == LINK_NONE {
+        NONE
+    } else {
+        byte as u16
+    }
+}
+
+fn link_byte(link: u16) -> u8 {
+    if link == NONE {
+        LINK_NONE
+    } else {
+        link as u8
+    }
+}
