@@ -6,7 +6,7 @@ use mathlib.Core.List.{List}
 use mathlib.Core.Path.{_≡_, refl, sym, subst}
 use native.Mathlib.Omega.{arith}
 use lib.ListN.{getD}
-use Rattle.lists.specs.Links.{none, has, Linked, head}
+use Rattle.lists.specs.Links.{none, has, Linked}
 use Rattle.lists.proofs.Check.{linked-after, linked-before}
 use Rattle.state.specs.Shown.{keyAt}
 use Rattle.sound.specs.IsSound.{used, Proper, sizeAt, chainStep, listStep}
@@ -41,7 +41,7 @@ list-tests n start end enabled lprev k = record {
   behind = λ x y h. h;
 }
 
-module _ (n : ℕ) (small : n ≤ none) (These : ℕ → Type 0) (R : ℕ → ℕ → Type 0) (next prev : List ℕ) (i : ℕ) (m : Meets n These R next prev i) where
+module _ {n : ℕ} (small : n ≤ none) {These : ℕ → Type 0} {R : ℕ → ℕ → Type 0} {next prev : List ℕ} {i : ℕ} (m : Meets n These R next prev i) where
   pub meets-below : (x : ℕ) → has x (m .list) ≡ true → x < n
   meets-below x h = m .exactly x .0 h .0
 

@@ -1,19 +1,17 @@
 -- The walk along the chain, with the sum of sizes so far.
-use Prim.Native.Nat.{ℕ, suc, _+_, _-_, _<_, _≤_}
+use Prim.Native.Nat.{ℕ, _+_, _-_, _<_, _≤_}
 use mathlib.Core.Bool.{Bool, true, false, _&&_}
 use mathlib.Core.Logic.{_≢_}
 use mathlib.Core.List.{List}
-use mathlib.Core.Path.{_≡_, refl, sym, ap, _∙_}
+use mathlib.Core.Path.{_≡_, refl, _∙_}
 use native.Mathlib.Omega.{arith}
-use borrow.Author.Tests.{eq-eqb, ne-eqb}
 use lib.Dec.{eqb}
 use lib.ListN.{getD}
 use Rattle.lists.specs.Links.{none}
 use Rattle.rules.specs.Rules.{top}
-use Rattle.sound.specs.Walk.{walk, sumAlong, onward}
-use Rattle.sound.specs.IsSound.{used, Proper, sizeAt, chainStep, chainWalk, chainOk}
-use Rattle.sound.specs.declared.Tally.{Tally}
-use Rattle.sound.specs.declared.Tally.the-variants.{Of, Broken}
+use Rattle.sound.specs.Walk.{sumAlong}
+use Rattle.sound.specs.IsSound.{Proper, sizeAt, chainStep, chainWalk, chainOk}
+use Rattle.sound.specs.declared.Tally.the-variants.{Broken}
 use Rattle.sound.proofs.Walk.{walk-ends, walk-stuck, walk-breaks, walk-goes, sum-ends, sum-goes}
 use Rattle.sound.proofs.Steps.{follows-true, chain-true}
 

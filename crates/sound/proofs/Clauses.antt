@@ -13,9 +13,9 @@ use Rattle.state.specs.Shown.{at}
 use Rattle.state.specs.declared.MemoryAllocator.{MemoryAllocator}
 use Rattle.sound.specs.Walk.{sumAlong}
 use Rattle.sound.specs.IsSound.{used, Proper, sizeAt}
-use Rattle.sound.specs.Paragraph.{Sized, Links, Meets, Enabled, ByAddress, BySize, Fresh, Paragraph}
+use Rattle.sound.specs.Paragraph.{Sized, Links, Meets, Enabled, ByAddress, Fresh, Paragraph}
 use Rattle.sound.proofs.BothWalks.{meets-first, meets-links}
-use Rattle.sound.proofs.Family.{key, OfList, Row, key-lt, counted}
+use Rattle.sound.proofs.Family.{key, Row, key-lt, counted}
 use Rattle.sound.proofs.Sums.{sum-along}
 
 module _ (n : ℕ) (small : n ≤ none) (s : MemoryAllocator) where
@@ -40,9 +40,9 @@ module _ (n : ℕ) (small : n ≤ none) (s : MemoryAllocator) where
       where
         go : (t : Bool) → used (s .enabled) i ≡ t → Links n s i
         go true e =
-            let a = meets-links n small (Enabled s) (ByAddress s) (s .next) (s .previous) (s .«first_entry» .0) chain i b e in
+            let a = meets-links small chain i b e in
             let k = key n s i in
-            let z = meets-links n small (OfList n s k) (BySize s) (s .«list_next») (s .«list_prev») (getD (s .«free_list») k 0) (lists k (key-lt n s i)) i b (e, refl) in
+            let z = meets-links small (lists k (key-lt n s i)) i b (e, refl) in
             record { previous = a .0; next = a .1; list-prev = z .0; list-next = z .1 }
         go false e =
             let f = unused i b e in
@@ -51,8 +51,8 @@ module _ (n : ℕ) (small : n ≤ none) (s : MemoryAllocator) where
     pub paragraph-of : Sized n s → Proper n (s .start) (s .end) (s .enabled) → s .«free_size» ≡ sum (map (at (s .start) (s .end)) (chain .list)) → Paragraph n s
     paragraph-of sized proper total = record {
       sized = sized;
-      first = meets-first n small (Enabled s) (ByAddress s) (s .next) (s .previous) (s .«first_entry» .0) chain;
-      heads = λ k b. meets-first n small (OfList n s k) (BySize s) (s .«list_next») (s .«list_prev») (getD (s .«free_list») k 0) (lists k b);
+      first = meets-first small chain;
+      heads = λ k b. meets-first small (lists k b);
       links = all-links;
       chain = chain;
       lists = lists;

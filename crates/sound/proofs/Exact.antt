@@ -4,8 +4,12 @@ use mathlib.Core.Bool.{true}
 use mathlib.Core.Logic.{_↔_}
 use mathlib.Core.Path.{_≡_}
 use Rattle.lists.specs.Links.{none}
+use Rattle.rules.specs.Rules.{Book}
+use Rattle.rules.specs.Sound.{Sound}
+use Rattle.state.specs.State.{stateOf}
 use Rattle.state.specs.Sound.{bookOf, SoundState}
 use Rattle.state.specs.declared.MemoryAllocator.{MemoryAllocator}
+use Rattle.state.proofs.States.{state-holds}
 use Rattle.state.proofs.Book.{sound-holds, holds-sound}
 use Rattle.sound.specs.IsSound.{isSound}
 use Rattle.sound.specs.Paragraph.{Sized, Paragraph}
@@ -33,3 +37,7 @@ module _ (n : ℕ) (small : n ≤ none) (s : MemoryAllocator) where
 -- Of a state whose arrays have the places that their types say, the check says yes exactly where it is sound.
 pub sound-exact : (n : ℕ) → n ≤ none → (s : MemoryAllocator) → Sized n s → (isSound n s ≡ true → SoundState n s) × (SoundState n s → isSound n s ≡ true)
 sound-exact n small s z = (passes-sound n small s z, sound-passes n small s)
+
+-- It says yes to the state of every sound book.
+pub state-passes : (n : ℕ) → n ≤ none → (b : Book) → Sound n b → isSound n (stateOf n b) ≡ true
+state-passes n small b h = sound-passes n small (stateOf n b) (holds-sound n small b (stateOf n b) (state-holds n b h))

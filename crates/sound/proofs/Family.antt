@@ -1,21 +1,21 @@
 -- The twelve lists of the paragraph as one family, joined.
-use Prim.Native.Nat.{ℕ, zero, suc, _+_, _<_, _≤_}
-use mathlib.Core.Bool.{Bool, true, false}
-use mathlib.Core.Logic.{_≢_, _⊎_, inl, inr, ⊎-elim}
+use Prim.Native.Nat.{ℕ, _<_, _≤_}
+use mathlib.Core.Bool.{Bool, true}
+use mathlib.Core.Logic.{_≢_, ⊎-elim}
 use mathlib.Core.List.{List, []}
-use mathlib.Core.Path.{_≡_, refl, sym, ap, _∙_, subst}
+use mathlib.Core.Path.{_≡_, refl, sym, ap, subst}
 use native.Mathlib.Omega.{arith}
 use borrow.Author.Tests.{lt-ltb, le-ltb}
 use lib.Dec.{ltb}
 use lib.ListN.{length, getD}
-use Rattle.lists.specs.Links.{pick, none, has, Listed}
+use Rattle.lists.specs.Links.{pick, none, has}
 use Rattle.lists.proofs.Laws.{below?, true≢false}
 use Rattle.lists.proofs.Check.{count, length-count}
 use Rattle.rules.specs.Rules.{sizeLists}
 use Rattle.laws.proofs.Shelf.{num-lt, list-number-mono}
 use Rattle.state.specs.Shown.{at, keyAt}
 use Rattle.state.specs.declared.MemoryAllocator.{MemoryAllocator}
-use Rattle.sound.specs.IsSound.{used, sizeAt}
+use Rattle.sound.specs.IsSound.{sizeAt}
 use Rattle.sound.specs.Paragraph.{Enabled, BySize, InOrder, Meets}
 use Rattle.sound.proofs.Orders.{once-listed, count-length}
 use Rattle.sound.proofs.Joined.{joined, joined-has, has-joined, joined-order}

@@ -1,23 +1,22 @@
 -- A state that passes the check is one of the paragraph.
 use Prim.Native.Nat.{ℕ, zero, suc, _+_, _<_, _≤_}
-use mathlib.Core.Bool.{Bool, true, false, _&&_}
+use mathlib.Core.Bool.{Bool, true, false}
 use mathlib.Core.Logic.{_≢_, ⊎-elim}
-use mathlib.Core.List.{List, [], _++_, map}
-use mathlib.Core.Path.{_≡_, refl, sym, ap, _∙_, subst}
+use mathlib.Core.List.{List, []}
+use mathlib.Core.Path.{_≡_, sym, ap, _∙_, subst}
 use native.Mathlib.Omega.{arith}
-use native.Mathlib.Numerals.{add-one}
 use borrow.Author.Tests.{eqb-true, lt-ltb, le-ltb}
 use lib.Dec.{eqb}
 use lib.ListN.{length, getD, length-append}
-use Rattle.lists.specs.Links.{pick, none, head, has, follow, Linked, Listed}
+use Rattle.lists.specs.Links.{pick, none, head, has, follow, Linked}
 use Rattle.lists.proofs.Laws.{same?, below?, true≢false, follow-walk, length-listed}
 use Rattle.lists.proofs.Check.{count, covers, linked-listed, linked-after}
 use Rattle.rules.specs.Rules.{sizeLists, sum}
 use Rattle.state.specs.Shown.{at}
 use Rattle.state.specs.declared.MemoryAllocator.{MemoryAllocator}
 use Rattle.sound.specs.Walk.{sumAlong, onward}
-use Rattle.sound.specs.IsSound.{recordOk, all, recordAt, used, Proper, sizeAt, chainWalk, chainOk, chainStep, listStep, listWalk, listsOk, isSound}
-use Rattle.sound.specs.Paragraph.{Sized, Enabled, ByAddress, BySize, InOrder, Fresh, Leads, Paragraph}
+use Rattle.sound.specs.IsSound.{recordOk, all, recordAt, used, Proper, sizeAt, chainWalk, chainOk, chainStep, listStep, listWalk, listsOk, isSound, chainIn, listsIn}
+use Rattle.sound.specs.Paragraph.{Sized, Enabled, ByAddress, BySize, InOrder, Fresh, Paragraph}
 use Rattle.sound.specs.declared.Tally.the-variants.{Of}
 use Rattle.sound.proofs.Tests.{and-true}
 use Rattle.sound.proofs.Records.{all-at, ok-fresh, all-proper}
@@ -64,15 +63,15 @@ module _ (n : ℕ) (small : n ≤ none) (s : MemoryAllocator) where
     chain-kind = chain-tests n (s .start) (s .end) (s .enabled) (s .previous) good
 
     abbrev ChainMet : ℕ → Type 0
-    ChainMet f = Met n small (s .next) (s .previous) (λ i. getD (s .start) i 0) (λ i. getD (s .end) i 0 + 2) (Enabled s) (ByAddress s) (chainStep n (s .start) (s .enabled) (s .previous)) chain-kind none 0 at-first f 0
+    ChainMet f = Met small (s .next) chain-kind none 0 at-first f 0
 
-    chain-found : chainOk n (s .«free_size») at-first (s .start) (s .end) (s .enabled) (s .previous) (s .next) c ≡ true
+    chain-found : chainIn n s c ≡ true
         → ChainMet c × (sumAlong (λ i. getD (s .next) i 0) (sizeAt (s .start) (s .end)) c at-first ≡ s .«free_size»)
     unfolding chainOk
     chain-found h =
         let w = and-true (onward (λ f. eqb f 0) (chainWalk n (s .start) (s .end) (s .enabled) (s .previous) (s .next) c none 0 at-first)) _ h in
         let o = onward-told (λ f. eqb f 0) (chainWalk n (s .start) (s .end) (s .enabled) (s .previous) (s .next) c none 0 at-first) (w .0) in (
-          walk-meets n small (s .next) (s .previous) (λ i. getD (s .start) i 0) (λ i. getD (s .end) i 0 + 2) (Enabled s) (ByAddress s) (chainStep n (s .start) (s .enabled) (s .previous)) chain-kind c 0 none 0 at-first
+          walk-meets small (s .next) chain-kind c 0 none 0 at-first
               (o .1 ∙ ap Of (eqb-true (o .0) 0 (o .2))),
           eqb-true _ _ (w .1),
         )
@@ -83,7 +82,7 @@ module _ (n : ℕ) (small : n ≤ none) (s : MemoryAllocator) where
     list-kind k = list-tests n (s .start) (s .end) (s .enabled) (s .«list_prev») k
 
     abbrev ListMet : ℕ → ℕ → ℕ → ℕ → Type 0
-    ListMet k i f g = Met n small (s .«list_next») (s .«list_prev») (sizeAt (s .start) (s .end)) (sizeAt (s .start) (s .end)) (OfList n s k) (BySize s) (listStep n (s .start) (s .end) (s .enabled) (s .«list_prev») k) (list-kind k) none 0 i f g
+    ListMet k i f g = Met small (s .«list_next») (list-kind k) none 0 i f g
 
     -- what the links of list k lead through
     abbrev ls : ℕ → List ℕ
@@ -103,17 +102,17 @@ module _ (n : ℕ) (small : n ≤ none) (s : MemoryAllocator) where
         sym (linked-follow n small (s .«list_next») (s .«list_prev») (headAt n s k) (m .list) (met-linked k (headAt n s k) f g m) (leads-head n (s .«list_next») (s .«list_prev») (headAt n s k) (m .list) (m .leads)))
 
     lists-found : (m k f : ℕ) → k + m ≤ sizeLists
-        → listsOk n (s .«free_list») (s .start) (s .end) (s .enabled) (s .«list_prev») (s .«list_next») m k f ≡ true
+        → listsIn n s m k f ≡ true
         → ((j : ℕ) → k ≤ j → j < k + m → Met-list j) × (length (joined ls m k) ≡ f)
     unfolding listsOk joined
     lists-found zero k f b h = (λ j a d. absurd (let z : ⊥ = omega arith in z), sym (eqb-true f 0 h))
     lists-found (suc m) k f b h =
         let e : headAt n s k ≡ getD (s .«free_list») k 0 = ap (λ (t : Bool). pick t (getD (s .«free_list») k 0) none) (lt-ltb k sizeLists (omega arith)) in
         let walk = listWalk n (s .start) (s .end) (s .enabled) (s .«list_prev») (s .«list_next») k in
-        let o = onward-told (λ g. listsOk n (s .«free_list») (s .start) (s .end) (s .enabled) (s .«list_prev») (s .«list_next») m (suc k) g) (walk f none 0 (getD (s .«free_list») k 0)) h in
+        let o = onward-told (λ g. listsIn n s m (suc k) g) (walk f none 0 (getD (s .«free_list») k 0)) h in
         let g = o .0 in
         let r = lists-found m (suc k) g (omega arith) (o .2) in
-        let w = walk-meets n small (s .«list_next») (s .«list_prev») (sizeAt (s .start) (s .end)) (sizeAt (s .start) (s .end)) (OfList n s k) (BySize s) (listStep n (s .start) (s .end) (s .enabled) (s .«list_prev») k) (list-kind k) f g none 0 (headAt n s k)
+        let w = walk-meets small (s .«list_next») (list-kind k) f g none 0 (headAt n s k)
         (ap (walk f none 0) e ∙ o .1) in
         let same = met-same k f g w in
         let sum : length (ls k) + length (joined ls m (suc k)) ≡ f = omega (arith, r .1, w .long, ap length same) in (
@@ -163,7 +162,7 @@ module _ (n : ℕ) (small : n ≤ none) (s : MemoryAllocator) where
           let m = mets k b in
           let e : headAt n s k ≡ getD (s .«free_list») k 0 = ap (λ (t : Bool). pick t (getD (s .«free_list») k 0) none) (lt-ltb k sizeLists b) in
           subst (Row n s k) e
-          (met-all n small (s .«list_next») (s .«list_prev») (sizeAt (s .start) (s .end)) (sizeAt (s .start) (s .end)) (OfList n s k) (BySize s) (listStep n (s .start) (s .end) (s .enabled) (s .«list_prev») k) (list-kind k)
+          (met-all small (s .«list_next») (list-kind k)
           (headAt n s k) (m .given) (m .left) (m .met)
           (λ x bx u. rw (m .same) (subst (λ (j : ℕ). has x (ls j) ≡ true) (u .1) (in-its-list x bx (u .0)))))
 
@@ -178,7 +177,7 @@ module _ (n : ℕ) (small : n ≤ none) (s : MemoryAllocator) where
       let linked = leads-linked n (s .next) (s .previous) none at-first (m .list) (m .leads) (m .back) (λ x k. m .these x k .0) in
       let listed = linked-listed n small (λ j. getD (s .next) j 0) (λ j. getD (s .previous) j 0) (m .list) linked in
       let long = m .long in
-      let chain : Chain n small s = met-all n small (s .next) (s .previous) (λ i. getD (s .start) i 0) (λ i. getD (s .end) i 0 + 2) (Enabled s) (ByAddress s) (chainStep n (s .start) (s .enabled) (s .previous)) (chain-kind good) at-first c 0 m
+      let chain : Chain n small s = met-all small (s .next) (chain-kind good) at-first c 0 m
       (covers on n (m .list) listed (λ x k. m .these x k .1) (omega arith)) in
       let g = lists-found good sizeLists 0 c (omega arith) (w .2) in
       let lists = list-meets good (λ j b. g .0 j (omega arith) (omega arith)) (g .1) in

@@ -1,24 +1,24 @@
 -- A state that holds a book is one of the paragraph.
-use Prim.Native.Nat.{ℕ, suc, _<_, _≤_}
+use Prim.Native.Nat.{ℕ, _<_, _≤_}
 use mathlib.Core.Bool.{Bool, true, false}
-use mathlib.Core.List.{List, map}
+use mathlib.Core.List.{List}
 use mathlib.Core.Path.{_≡_, refl, sym, ap, _∙_, subst}
-use lib.ListN.{length, getD}
-use Rattle.lists.specs.Links.{none, head, before, after, has}
+use lib.ListN.{getD}
+use Rattle.lists.specs.Links.{none, has}
 use Rattle.lists.specs.Threads.{alone, only}
 use Rattle.lists.proofs.Laws.{true≢false, not-has, before-none, after-none}
 use Rattle.rules.specs.Rules.{sizeLists, Range, Book, ofList, sum}
 use Rattle.rules.specs.Sound.{In, Ahead, Smaller, Good}
-use Rattle.laws.proofs.Shelf.{num, ofList-in, ofList-number, in-ofList, ofList-pairwise}
-use Rattle.state.specs.Shown.{numbers, at, keyAt}
+use Rattle.laws.proofs.Shelf.{num, ofList-in, in-ofList, ofList-pairwise}
+use Rattle.state.specs.Shown.{numbers, at}
 use Rattle.state.specs.State.{Holds}
 use Rattle.state.specs.declared.MemoryAllocator.{MemoryAllocator}
 use Rattle.state.proofs.Walks.{in-has, has-in, in-fresh}
 use Rattle.state.proofs.Book.{at-numbers}
 use Rattle.sound.specs.IsSound.{used, Proper}
-use Rattle.sound.specs.Paragraph.{Sized, Enabled, ByAddress, BySize, Fresh, Paragraph}
+use Rattle.sound.specs.Paragraph.{Sized, Enabled, Fresh, Paragraph}
 use Rattle.sound.proofs.Orders.{linked-leads, linked-back, listed-once}
-use Rattle.sound.proofs.Family.{key, OfList, Row}
+use Rattle.sound.proofs.Family.{key, Row}
 use Rattle.sound.proofs.Clauses.{Chain, paragraph-of}
 use Rattle.sound.proofs.Threaded.{threads-linked, pairwise-numbers}
 

@@ -1,13 +1,13 @@
 -- A state of the paragraph holds a sound book: that of its chain and its lists.
 use Prim.Native.Nat.{ℕ, _<_, _≤_}
 use mathlib.Core.Bool.{Bool, true, false}
-use mathlib.Core.Logic.{_≢_, inl, inr, ⊎-elim, _↔_}
+use mathlib.Core.Logic.{_≢_, inr, ⊎-elim, _↔_}
 use mathlib.Core.List.{List, [], _∷_, map}
 use mathlib.Core.Path.{_≡_, refl, sym, ap, _∙_, subst}
 use native.Mathlib.Omega.{arith}
 use borrow.Author.Tests.{eq-eqb, ne-eqb, lt-ltb}
-use lib.ListN.{length, getD}
-use Rattle.lists.specs.Links.{pick, none, head, has, Linked}
+use lib.ListN.{getD}
+use Rattle.lists.specs.Links.{pick, none, head, has}
 use Rattle.lists.specs.Threads.{Threads, alone, only}
 use Rattle.lists.proofs.Laws.{same?, below?, true≢false}
 use Rattle.lists.proofs.Threading.{same-lists}
@@ -17,11 +17,11 @@ use Rattle.state.specs.Shown.{numbers, at, Kept, Chained, Shelved}
 use Rattle.state.specs.State.{Holds}
 use Rattle.state.specs.declared.MemoryAllocator.{MemoryAllocator}
 use Rattle.sound.specs.IsSound.{used}
-use Rattle.sound.specs.Paragraph.{Enabled, ByAddress, BySize, Fresh, Paragraph}
+use Rattle.sound.specs.Paragraph.{Enabled, Fresh, Paragraph}
 use Rattle.sound.proofs.Orders.{has-first, leads-head}
 use Rattle.sound.proofs.Joined.{joined-out, joined-list}
 use Rattle.sound.proofs.BothWalks.{meets-linked}
-use Rattle.sound.proofs.Family.{key, OfList, headAt, Row, key-lt, family, row, row-keyed, all-rows, rows-told, rows-have, rows-once, rows-sizes}
+use Rattle.sound.proofs.Family.{key, headAt, Row, key-lt, family, row, row-keyed, all-rows, rows-told, rows-have, rows-once, rows-sizes}
 use Rattle.sound.proofs.Threaded.{linked-threads, numbers-map, in-map, map-in, pairwise-map}
 
 no-members : (l : List ℕ) → ((x : ℕ) → has x l ≡ true → ⊥) → l ≡ []
@@ -112,7 +112,7 @@ module _ (n : ℕ) (small : n ≤ none) (s : MemoryAllocator) (p : Paragraph n s
     threads = subst (λ (l : List ℕ). Threads n alone (only l) (s .previous) (s .next)) (sym (numbers-map (s .start) (s .end) xs))
         (linked-threads n small alone (only xs) (s .previous) (s .next) (p .sized .previous) (p .sized .next)
         (λ k. ⊎-elim
-        (λ (e : k ≡ 0). rw (eq-eqb k 0 e) (meets-linked n small (Enabled s) (ByAddress s) (s .next) (s .previous) (s .«first_entry» .0) (p .chain)))
+        (λ (e : k ≡ 0). rw (eq-eqb k 0 e) (meets-linked small (p .chain)))
         (λ (d : k ≢ 0). rw (ne-eqb k 0 d) tt)
         (same? k 0))
         (λ k i h. ⊎-elim (λ (e : k ≡ 0). sym e) (λ (d : k ≢ 0). true≢false (sym (rw (ne-eqb k 0 d) at h))) (same? k 0))
@@ -138,7 +138,7 @@ module _ (n : ℕ) (small : n ≤ none) (s : MemoryAllocator) (p : Paragraph n s
     stand = stands js;
     threads = same-lists n small (key n s) (row n s rows) (s .«list_prev») (s .«list_next»)
         (linked-threads n small (key n s) (row n s rows) (s .«list_prev») (s .«list_next») (p .sized .list-prev) (p .sized .list-next)
-        (λ k. meets-linked n small (OfList n s k) (BySize s) (s .«list_next») (s .«list_prev») (headAt n s k) (rows k))
+        (λ k. meets-linked small (rows k))
         (row-keyed n s rows)
         (λ i b h. let w = out i b (λ u. true≢false (sym (rows (key n s i) .exactly i .1 (b, (u, refl))) ∙ h)) in (w .list-prev, w .list-next)))
         (λ k. numbers (ofList k (map R js))) row-of;

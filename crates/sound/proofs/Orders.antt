@@ -1,16 +1,15 @@
 -- Lists of numbers: members, order, links, and how many there are.
-use Prim.Native.Nat.{ℕ, zero, suc, _+_, _<_, _≤_, zero-le}
+use Prim.Native.Nat.{ℕ, zero, suc, _<_, _≤_, zero-le}
 use mathlib.Core.Bool.{Bool, true, false}
 use mathlib.Core.Logic.{_≢_, _⊎_, inl, inr, ⊎-elim}
 use mathlib.Core.List.{List, [], _∷_, _++_}
-use mathlib.Core.Path.{_≡_, refl, sym, ap, _∙_, subst}
+use mathlib.Core.Path.{_≡_, refl, sym, ap, _∙_}
 use native.Mathlib.Omega.{arith}
-use native.Mathlib.Nat.{not-suc-le-zero}
 use borrow.Author.Tests.{eq-eqb, ne-eqb}
 use lib.Dec.{eqb}
 use lib.ListN.{length, getD}
-use Rattle.lists.specs.Links.{pick, none, head, after, beforeFrom, Fresh, Listed, has, Linked}
-use Rattle.lists.proofs.Laws.{same?, true≢false, parted, has-cons, has-put, has-left, has-right, length-mid, not-has, fresh-has, fresh-unless}
+use Rattle.lists.specs.Links.{pick, head, after, beforeFrom, Fresh, Listed, has, Linked}
+use Rattle.lists.proofs.Laws.{same?, true≢false, parted, has-cons, has-put, length-mid, fresh-has, fresh-unless}
 use Rattle.lists.proofs.Check.{count}
 use Rattle.sound.specs.Paragraph.{Link, Leads, Back, InOrder}
 

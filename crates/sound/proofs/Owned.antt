@@ -1,9 +1,9 @@
 -- The arrays of a state that is held by value have the places that their types say: `good` of a place of its owner's proof shows `Is`.
 use mathlib.Core.List.{List}
-use mathlib.Core.Path.{_≡_, sym, _∙_}
+use mathlib.Core.Path.{sym, _∙_}
 use mir.Val.{Val}
 use denote.Laws.{Is}
-use lib.ListN.{length, length-map}
+use lib.ListN.{length-map}
 use Rattle.state.specs.Shown.{pool}
 use Rattle.state.specs.declared.MemoryAllocator.{MemoryAllocator}
 use Rattle.state.proofs.MemoryAllocator as T

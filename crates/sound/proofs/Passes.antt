@@ -12,16 +12,15 @@ use Rattle.lists.proofs.Check.{count}
 use Rattle.rules.specs.Rules.{sizeLists}
 use Rattle.state.specs.declared.MemoryAllocator.{MemoryAllocator}
 use Rattle.sound.specs.Walk.{onward}
-use Rattle.sound.specs.IsSound.{recordOk, all, recordAt, used, sizeAt, chainWalk, chainOk, chainStep, listStep, listWalk, listsOk, isSound}
-use Rattle.sound.specs.Paragraph.{Enabled, ByAddress, BySize, Paragraph}
-use Rattle.sound.specs.declared.Tally.the-variants.{Of}
+use Rattle.sound.specs.IsSound.{recordOk, recordAt, used, chainWalk, chainOk, listWalk, isSound, chainIn, listsIn}
+use Rattle.sound.specs.Paragraph.{Paragraph}
 use Rattle.sound.proofs.Tests.{true-and}
 use Rattle.sound.proofs.Records.{all-holds, used-ok, fresh-ok, records-counted}
 use Rattle.sound.proofs.Whole.{lists-done, lists-go, sound-of}
 use Rattle.sound.proofs.Walked.{meets-walk}
 use Rattle.sound.proofs.BothWalks.{chain-tests, list-tests}
 use Rattle.sound.proofs.Joined.{joined}
-use Rattle.sound.proofs.Family.{OfList, headAt, Row, family, row, all-rows, rows-told, rows-have, rows-once, counted}
+use Rattle.sound.proofs.Family.{headAt, Row, family, row, all-rows, rows-told, rows-have, rows-once, counted}
 use Rattle.sound.proofs.Clauses.{chain-length, chain-sum}
 
 module _ (n : ℕ) (small : n ≤ none) (s : MemoryAllocator) (p : Paragraph n s) where
@@ -36,20 +35,19 @@ module _ (n : ℕ) (small : n ≤ none) (s : MemoryAllocator) (p : Paragraph n s
       go true e = let g = p .proper i b e in used-ok _ _ _ _ _ _ (g .0) (g .1)
       go false e = let f = p .unused i b e in fresh-ok _ _ _ _ _ _ (f .start) (f .end) (f .previous) (f .next) (f .list-prev) (f .list-next)
 
-  chain-passes : chainOk n (s .«free_size») (s .«first_entry» .0) (s .start) (s .end) (s .enabled) (s .previous) (s .next) c ≡ true
+  chain-passes : chainIn n s c ≡ true
   unfolding chainOk
   chain-passes =
       let first = s .«first_entry» .0 in
       let w = ap (λ (f : ℕ). chainWalk n (s .start) (s .end) (s .enabled) (s .previous) (s .next) f none 0 first) (chain-length n small s (p .chain))
-      ∙ meets-walk n small (s .next) (s .previous) (λ i. getD (s .start) i 0) (λ i. getD (s .end) i 0 + 2) (Enabled s) (ByAddress s) (chainStep n (s .start) (s .enabled) (s .previous))
-      (chain-tests n (s .start) (s .end) (s .enabled) (s .previous) (p .proper)) first 0 (p .chain) in
+      ∙ meets-walk small (s .next) (chain-tests n (s .start) (s .end) (s .enabled) (s .previous) (p .proper)) first 0 (p .chain) in
       true-and _ _ (ap (onward (λ f. eqb f 0)) w) (eq-eqb _ _ (chain-sum n small s (p .chain) ∙ sym (p .total)))
 
   abbrev rows : (k : ℕ) → Row n s k (headAt n s k)
   rows = family n s (p .lists)
 
   lists-pass : (m k : ℕ) → k + m ≤ sizeLists
-      → listsOk n (s .«free_list») (s .start) (s .end) (s .enabled) (s .«list_prev») (s .«list_next») m k (length (joined (row n s rows) m k)) ≡ true
+      → listsIn n s m k (length (joined (row n s rows) m k)) ≡ true
   unfolding joined
   lists-pass zero k b = lists-done n (s .«free_list») (s .start) (s .end) (s .enabled) (s .«list_prev») (s .«list_next») 0 k 0 refl
   lists-pass (suc m) k b =
@@ -58,10 +56,9 @@ module _ (n : ℕ) (small : n ≤ none) (s : MemoryAllocator) (p : Paragraph n s
       let walk = listWalk n (s .start) (s .end) (s .enabled) (s .«list_prev») (s .«list_next») k in
       let w = ap (λ (f : ℕ). walk f none 0 (getD (s .«free_list») k 0)) (length-append (row n s rows k) (joined (row n s rows) m (suc k)))
       ∙ ap (walk (length (row n s rows k) + g) none 0) (sym e)
-      ∙ meets-walk n small (s .«list_next») (s .«list_prev») (sizeAt (s .start) (s .end)) (sizeAt (s .start) (s .end)) (OfList n s k) (BySize s) (listStep n (s .start) (s .end) (s .enabled) (s .«list_prev») k)
-      (list-tests n (s .start) (s .end) (s .enabled) (s .«list_prev») k) (headAt n s k) g (rows k) in
+      ∙ meets-walk small (s .«list_next») (list-tests n (s .start) (s .end) (s .enabled) (s .«list_prev») k) (headAt n s k) g (rows k) in
       lists-go n (s .«free_list») (s .start) (s .end) (s .enabled) (s .«list_prev») (s .«list_next») (suc m) m k _ g refl w
-      ∙ ap (λ (j : ℕ). listsOk n (s .«free_list») (s .start) (s .end) (s .enabled) (s .«list_prev») (s .«list_next») m j g) (add-one k)
+      ∙ ap (λ (j : ℕ). listsIn n s m j g) (add-one k)
       ∙ lists-pass m (suc k) (omega arith)
 
   pub passes : isSound n s ≡ true
@@ -69,4 +66,4 @@ module _ (n : ℕ) (small : n ≤ none) (s : MemoryAllocator) (p : Paragraph n s
       let k = counted n (used (s .enabled)) (all-rows n s rows) (rows-once n s rows) (rows-told n s rows) (rows-have n s rows) in
       sound-of n s c (records-counted n (s .start) (s .end) (s .enabled) (s .previous) (s .next) (s .«list_prev») (s .«list_next») n refl (all-holds _ n record-passes))
       ∙ true-and _ _ chain-passes
-      (ap (listsOk n (s .«free_list») (s .start) (s .end) (s .enabled) (s .«list_prev») (s .«list_next») sizeLists 0) k ∙ lists-pass sizeLists 0 (omega arith))
+      (ap (listsIn n s sizeLists 0) k ∙ lists-pass sizeLists 0 (omega arith))

@@ -1,12 +1,12 @@
 -- The test of each record, and the count of those in use.
-use Prim.Native.Nat.{ℕ, zero, suc, _+_, _<_, _≤_}
+use Prim.Native.Nat.{ℕ, zero, suc, _<_, _≤_}
 use mathlib.Core.Bool.{Bool, true, false, cond, _&&_}
-use mathlib.Core.Logic.{⊎-elim}
+use mathlib.Core.Logic.{_≢_, ⊎-elim}
 use mathlib.Core.List.{List}
-use mathlib.Core.Path.{_≡_, refl, sym, ap, _∙_, subst}
+use mathlib.Core.Path.{_≡_, refl, sym, _∙_}
 use native.Mathlib.Omega.{arith}
 use native.Mathlib.Nat.{not-suc-le-zero}
-use borrow.Author.Tests.{leb-true, ltb-true, le-leb, lt-ltb, eqb-true}
+use borrow.Author.Tests.{leb-true, ltb-true, le-leb, lt-ltb, eqb-true, eq-eqb, ne-eqb}
 use lib.Dec.{eqb, leb, ltb}
 use lib.ListN.{getD}
 use Rattle.lists.specs.Links.{pick, none}
@@ -70,6 +70,22 @@ module _ (on : ℕ → Bool) where
 -- ---- one record
 
 module _ (start end previous next lprev lnext : ℕ) where
+  pub in-use : (on : Bool) → on ≡ true → recordOk on start end previous next lprev lnext ≡ proper start end
+  unfolding recordOk
+  in-use on u = rw u
+
+  pub stale-start : (on : Bool) → on ≡ false → start ≢ 0 → recordOk on start end previous next lprev lnext ≡ false
+  unfolding recordOk
+  stale-start on u d = rw (u, ne-eqb start 0 d)
+
+  pub stale-end : (on : Bool) → on ≡ false → start ≡ 0 → end ≢ 0 → recordOk on start end previous next lprev lnext ≡ false
+  unfolding recordOk
+  stale-end on u e d = rw (u, eq-eqb start 0 e, ne-eqb end 0 d)
+
+  pub by-links : (on : Bool) → on ≡ false → start ≡ 0 → end ≡ 0 → recordOk on start end previous next lprev lnext ≡ unlinked previous next lprev lnext
+  unfolding recordOk
+  by-links on u e d = rw (u, eq-eqb start 0 e, eq-eqb end 0 d)
+
   pub used-ok : start ≤ end → end < top → recordOk true start end previous next lprev lnext ≡ true
   unfolding recordOk proper
   used-ok a b = rw (le-leb start end a, lt-ltb end top b)

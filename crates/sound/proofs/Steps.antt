@@ -1,16 +1,15 @@
 -- The test of one step of a walk.
-use Prim.Native.Nat.{ℕ, suc, _<_, _≤_}
+use Prim.Native.Nat.{ℕ, _<_, _≤_}
 use mathlib.Core.Bool.{Bool, true, false, _&&_}
 use mathlib.Core.List.{List}
-use mathlib.Core.Path.{_≡_, refl, sym, ap, _∙_}
-use native.Mathlib.Omega.{arith}
+use mathlib.Core.Path.{_≡_, sym, ap, _∙_}
 use borrow.Author.Tests.{ltb-true, eqb-true, lt-ltb, eq-eqb, le-leb, lt-leb, leb-true}
 use lib.Dec.{eqb, leb, ltb}
 use lib.ListN.{getD}
 use Rattle.rules.specs.Rules.{listNumber}
 use Rattle.state.specs.Shown.{keyAt}
 use Rattle.sound.specs.IsSound.{used, follows, sizeAt, chainStep, listStep}
-use Rattle.sound.proofs.Tests.{and-true, true-and, false-and}
+use Rattle.sound.proofs.Tests.{and-true}
 
 module _ (n : ℕ) (enabled : List Bool) (prev : List ℕ) (q i : ℕ) where
   pub follows-true : follows n enabled prev q i ≡ true → (i < n) × (used enabled i ≡ true) × (getD prev i 0 ≡ q)

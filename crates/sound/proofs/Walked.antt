@@ -1,15 +1,14 @@
 -- A walk that ends meets a doubly linked list, in order; and a walk along every such list ends.
 use Prim.Native.Nat.{ℕ, zero, suc, _+_, _-_, _<_, _≤_, zero-le}
 use mathlib.Core.Bool.{Bool, true, false, cond}
-use mathlib.Core.Logic.{_≢_}
 use mathlib.Core.List.{List, [], _∷_}
-use mathlib.Core.Path.{_≡_, refl, sym, ap, _∙_, subst}
+use mathlib.Core.Path.{_≡_, refl, sym, ap, _∙_}
 use native.Mathlib.Omega.{arith}
 use native.Mathlib.Nat.{zero-add}
 use borrow.Author.Tests.{eqb-true}
 use lib.Dec.{eqb}
 use lib.ListN.{length, getD}
-use Rattle.lists.specs.Links.{none, has, Listed}
+use Rattle.lists.specs.Links.{none, has}
 use Rattle.lists.proofs.Laws.{true≢false}
 use Rattle.lists.proofs.Check.{linked-listed}
 use Rattle.sound.specs.Walk.{walk}
@@ -27,7 +26,7 @@ pub record Tests (n : ℕ) (prev : List ℕ) (from past : ℕ → ℕ) (These : 
   pub ahead : (x y : ℕ) → past x ≤ from y → R x y
   pub behind : (x y : ℕ) → R x y → past x ≤ from y
 
-module _ (n : ℕ) (small : n ≤ none) (next prev : List ℕ) (from past : ℕ → ℕ) (These : ℕ → Type 0) (R : ℕ → ℕ → Type 0) (step : ℕ → ℕ → ℕ → Bool) (t : Tests n prev from past These R step) where
+module _ {n : ℕ} (small : n ≤ none) (next : List ℕ) {prev : List ℕ} {from past : ℕ → ℕ} {These : ℕ → Type 0} {R : ℕ → ℕ → Type 0} {step : ℕ → ℕ → ℕ → Bool} (t : Tests n prev from past These R step) where
   abbrev N : ℕ → ℕ
   N i = getD next i 0
 

@@ -1,12 +1,10 @@
 -- The size lists one after another, and the whole check.
-use Prim.Native.Nat.{ℕ, zero, suc, _+_, _-_, _<_, _≤_}
+use Prim.Native.Nat.{ℕ, zero, suc, _+_}
 use mathlib.Core.Bool.{Bool, true, false, cond, _&&_}
 use mathlib.Core.Logic.{_≢_}
 use mathlib.Core.List.{List}
-use mathlib.Core.Path.{_≡_, refl, sym, ap, _∙_}
-use native.Mathlib.Omega.{arith}
+use mathlib.Core.Path.{_≡_, refl, sym}
 use native.Mathlib.Numerals.{add-one}
-use borrow.Author.Tests.{eqb-true}
 use lib.Dec.{eqb}
 use lib.ListN.{getD}
 use Rattle.lists.specs.Links.{none}
@@ -15,7 +13,7 @@ use Rattle.lists.proofs.Check.{count}
 use Rattle.rules.specs.Rules.{sizeLists}
 use Rattle.state.specs.declared.MemoryAllocator.{MemoryAllocator}
 use Rattle.sound.specs.Walk.{onward}
-use Rattle.sound.specs.IsSound.{all, recordAt, used, records, chainOk, listWalk, listsOk, isSound}
+use Rattle.sound.specs.IsSound.{all, recordAt, used, records, listWalk, listsOk, isSound, recordsIn, chainIn, listsIn}
 use Rattle.sound.specs.declared.Tally.{Tally}
 use Rattle.sound.specs.declared.Tally.the-variants.{Of, Broken}
 use Rattle.sound.proofs.Tests.{and-true}
@@ -43,36 +41,24 @@ module _ (n : ℕ) (heads start end : List ℕ) (enabled : List Bool) (lprev lne
   lists-go m m′ k c f e h = rw (e, h, add-one k)
 
 module _ (n : ℕ) (s : MemoryAllocator) where
-  abbrev tally : Tally
-  tally = records n (s .start) (s .end) (s .enabled) (s .previous) (s .next) (s .«list_prev») (s .«list_next»)
-
-  pub sound-broken : tally ≡ Broken → isSound n s ≡ false
+  pub sound-broken : recordsIn n s ≡ Broken → isSound n s ≡ false
   unfolding isSound
   sound-broken h = rw h
 
-  pub sound-of : (c : ℕ) → tally ≡ Of c
-      → isSound n s
-      ≡ (chainOk n (s .«free_size») (s .«first_entry» .0) (s .start) (s .end) (s .enabled) (s .previous) (s .next) c
-      && listsOk n (s .«free_list») (s .start) (s .end) (s .enabled) (s .«list_prev») (s .«list_next») sizeLists 0 c)
+  pub sound-of : (c : ℕ) → recordsIn n s ≡ Of c → isSound n s ≡ (chainIn n s c && listsIn n s sizeLists 0 c)
   unfolding isSound
   sound-of c h = rw h
 
   abbrev c : ℕ
   c = count (used (s .enabled)) n
 
-  abbrev chain : ℕ → Bool
-  chain k = chainOk n (s .«free_size») (s .«first_entry» .0) (s .start) (s .end) (s .enabled) (s .previous) (s .next) k
-
-  abbrev lists : ℕ → Bool
-  lists k = listsOk n (s .«free_list») (s .start) (s .end) (s .enabled) (s .«list_prev») (s .«list_next») sizeLists 0 k
-
   abbrev every : Bool
   every = all (recordAt (s .start) (s .end) (s .enabled) (s .previous) (s .next) (s .«list_prev») (s .«list_next»)) n
 
-  pub sound-told : isSound n s ≡ true → (every ≡ true) × (chain c ≡ true) × (lists c ≡ true)
+  pub sound-told : isSound n s ≡ true → (every ≡ true) × (chainIn n s c ≡ true) × (listsIn n s sizeLists 0 c ≡ true)
   unfolding isSound records
   sound-told = go every
     where
-      go : (t : Bool) → onward (λ k. chain k && lists k) (cond t (Of c) Broken) ≡ true → (t ≡ true) × (chain c ≡ true) × (lists c ≡ true)
-      go true h = let w = and-true (chain c) (lists c) h in (refl, w .0, w .1)
+      go : (t : Bool) → onward (λ k. chainIn n s k && listsIn n s sizeLists 0 k) (cond t (Of c) Broken) ≡ true → (t ≡ true) × (chainIn n s c ≡ true) × (listsIn n s sizeLists 0 c ≡ true)
+      go true h = let w = and-true (chainIn n s c) (listsIn n s sizeLists 0 c) h in (refl, w .0, w .1)
       go false h = true≢false (sym h)

@@ -84,9 +84,15 @@ listsOk n heads start end enabled lprev lnext (suc m) k c =
 
 -- ---- the whole
 
+abbrev pub recordsIn : ℕ → MemoryAllocator → Tally
+recordsIn n s = records n (s .start) (s .end) (s .enabled) (s .previous) (s .next) (s .«list_prev») (s .«list_next»)
+
+abbrev pub chainIn : ℕ → MemoryAllocator → ℕ → Bool
+chainIn n s = chainOk n (s .«free_size») (s .«first_entry» .0) (s .start) (s .end) (s .enabled) (s .previous) (s .next)
+
+abbrev pub listsIn : ℕ → MemoryAllocator → ℕ → ℕ → ℕ → Bool
+listsIn n s = listsOk n (s .«free_list») (s .start) (s .end) (s .enabled) (s .«list_prev») (s .«list_next»)
+
+-- the chain has the records in use, and so have the lists
 unfoldable pub isSound : ℕ → MemoryAllocator → Bool
-isSound n s =
-    onward
-    (λ c. chainOk n (s .«free_size») (s .«first_entry» .0) (s .start) (s .end) (s .enabled) (s .previous) (s .next) c
-    && listsOk n (s .«free_list») (s .start) (s .end) (s .enabled) (s .«list_prev») (s .«list_next») sizeLists 0 c)
-    (records n (s .start) (s .end) (s .enabled) (s .previous) (s .next) (s .«list_prev») (s .«list_next»))
+isSound n s = onward (λ c. chainIn n s c && listsIn n s sizeLists 0 c) (recordsIn n s)

@@ -1,6 +1,6 @@
 -- A walk along links, each step of which must pass a test. Assumes nothing.
 use Prim.Native.Nat.{ℕ, zero, suc, _+_}
-use mathlib.Core.Bool.{Bool, true, false, cond}
+use mathlib.Core.Bool.{Bool, false, cond}
 use lib.Dec.{eqb}
 use Rattle.lists.specs.Links.{none}
 use Rattle.sound.specs.declared.Tally.{Tally}

@@ -9,8 +9,8 @@ use state::POOL;
 use state::RecordIndex;
 use state::TOP;
 ghost use mathlib.Core.Path.{_≡_};
-ghost use mathlib.Core.Bool.{Bool, true, false, cond};
-ghost use Prim.Native.Nat.{ℕ, suc, _<_, _≤_};
+ghost use mathlib.Core.Bool.{cond};
+ghost use Prim.Native.Nat.{suc, _<_, _≤_};
 ghost use lib.ListN.{getD};
 ghost use Rattle.lists.specs.Links.{none};
 ghost use Rattle.rules.specs.Rules.{sizeLists, top};
@@ -130,7 +130,7 @@ fn size_at(start: &[u64; POOL], end: &[u64; POOL], i: RecordIndex) -> u64
     end[n] - start[n] + 1
 }
 
-// Record i is one of the pool, in use, and names `before` before it.
+// Record i is one of the pool, is in use, and its link back is `before`.
 fn follows(enabled: &[bool; POOL], prev: &[u16; POOL], before: RecordIndex, i: RecordIndex) -> bool
     ensures { λ r. ⌜ r ≡ follows pool (now (enabled .entry)) (now (prev .entry)) (before .0) (i .0) ⌝ }
 {
@@ -144,7 +144,7 @@ fn follows(enabled: &[bool; POOL], prev: &[u16; POOL], before: RecordIndex, i: R
     prev[n] == before.0
 }
 
-// And starts at `low` or above.
+// Record i follows `before` in the chain: it starts at `low` or above.
 fn chain_step(
     start: &[u64; POOL],
     enabled: &[bool; POOL],
@@ -272,19 +272,18 @@ fn lists_ok(
     requires { ⌜ Proper pool (now start) (now end) (now enabled) ⌝ }
     ensures { λ r. ⌜ r ≡ listsOk pool (now (heads .entry)) (now (start .entry)) (now (end .entry)) (now (enabled .entry)) (now (lprev .entry)) (now (lnext .entry)) sizeLists 0 count ⌝ }
 {
-    let mut k: u8 = 0;
+    let mut k: usize = 0;
     let mut left = count;
-    while k < 12 {
-        let n = k as usize;
+    while k < LISTS {
         let rest = tally_list(
             start,
             end,
             enabled,
             lprev,
             lnext,
-            ListIndex(k),
+            ListIndex(k as u8),
             left,
-            RecordIndex(heads[n]),
+            RecordIndex(heads[k]),
         );
         let Tally::Of(records) = rest else {
             return false;

@@ -4,18 +4,18 @@ use mathlib.Core.Bool.{true}
 use mathlib.Core.Logic.{inl, inr}
 use mathlib.Core.List.{List, [], _∷_, _++_, map}
 use mathlib.Core.Path.{_≡_, refl, sym, ap, _∙_, subst}
-use lib.ListN.{length, getD}
-use Rattle.lists.specs.Links.{none, head, after, Listed, has, follow, tab}
+use lib.ListN.{getD}
+use Rattle.lists.specs.Links.{none, head, after, Listed, has, tab}
 use Rattle.lists.proofs.Laws.{follow-walk, length-listed}
 use Rattle.rules.specs.Rules.{sizeLists, Range, Book, ofList, lists}
-use Rattle.rules.specs.Sound.{In, Sound}
+use Rattle.rules.specs.Sound.{Sound}
 use Rattle.laws.proofs.Shelf.{twelve, ofList-in}
 use Rattle.state.specs.Shown.{numbers, at, Stand}
 use Rattle.state.specs.State.{Holds, stateOf}
 use Rattle.state.specs.Sound.{led, joinedLists, bookOf, SoundState}
 use Rattle.state.specs.declared.MemoryAllocator.{MemoryAllocator}
 use Rattle.state.proofs.States.{by-tab, holds-state, state-holds}
-use Rattle.state.proofs.Walks.{in-has, has-in}
+use Rattle.state.proofs.Walks.{has-in}
 
 pub at-numbers : (start end : List ℕ) (l : List Range) → Stand l start end → map (at start end) (numbers l) ≡ l
 at-numbers start end [] h = refl

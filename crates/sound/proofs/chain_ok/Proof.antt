@@ -12,10 +12,6 @@ use Rattle.sound.proofs.Tests.{false-and, and-of}
 use Rattle.sound.proofs.Chain.{ChainAt, chain-starts, passes, chain-goes, chain-stuck, chain-breaks, chain-ends}
 use Rattle.sound.proofs.chain_ok.Statement.{statement}
 use Rattle.sound.proofs.chain_ok.Tie as tie
-use Rattle.sound.proofs.chain_ok.Reads as reads
-use Rattle.sound.proofs.chain_ok.Lts as lts
-use Rattle.sound.proofs.chain_step.Reads as chain-step-reads
-use Rattle.sound.proofs.size_at.Reads as size-at-reads
 
 abbrev Inv-loop : tie.InvT-loop
 Inv-loop total start end enabled previous next count before₀ cur₀ low₀ sum₀ left₀ before cur low sum left = ChainAt pool (cur₀ .0) start end enabled previous next count (before .0) (cur .0) low sum left

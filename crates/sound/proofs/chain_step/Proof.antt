@@ -4,9 +4,6 @@ use Rattle.sound.proofs.Steps.{follows-true, chain-unfollowed, chain-te
 use borrow.Author.Needs.{needs}
 use Rattle.sound.proofs.chain_step.Statement.{statement}
 use Rattle.sound.proofs.chain_step.Tie as tie
-use Rattle.sound.proofs.chain_step.Reads as reads
-use Rattle.sound.proofs.chain_step.Lts as lts
-use Rattle.sound.proofs.follows.Reads as follows-reads
 
 follows-requires : tie.Need-follows-requires
 follows-requires c κs = search needs

@@ -5,8 +5,6 @@ use Rattle.sound.specs.IsSound.{follows}
 use borrow.Author.Needs.{needs}
 use Rattle.sound.proofs.follows.Statement.{statement}
 use Rattle.sound.proofs.follows.Tie as tie
-use Rattle.sound.proofs.follows.Reads as reads
-use Rattle.sound.proofs.follows.Lts as lts
 
 cast-n : tie.Need-cast-n
 cast-n c = search needs

@@ -2,8 +2,6 @@ use borrow.Author.Tests.{le-leb, lt-leb}
 use Rattle.sound.specs.IsSound.{proper}
 use Rattle.sound.proofs.is_proper.Statement.{statement}
 use Rattle.sound.proofs.is_proper.Tie as tie
-use Rattle.sound.proofs.is_proper.Reads as reads
-use Rattle.sound.proofs.is_proper.Lts as lts
 
 returns : tie.Need-returns
 unfolding proper

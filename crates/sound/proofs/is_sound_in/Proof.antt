@@ -6,11 +6,6 @@ use Rattle.sound.proofs.Whole.{sound-broken, sound-of}
 use borrow.Author.Needs.{needs}
 use Rattle.sound.proofs.is_sound_in.Statement.{statement}
 use Rattle.sound.proofs.is_sound_in.Tie as tie
-use Rattle.sound.proofs.is_sound_in.Reads as reads
-use Rattle.sound.proofs.is_sound_in.Lts as lts
-use Rattle.sound.proofs.chain_ok.Reads as chain-ok-reads
-use Rattle.sound.proofs.lists_ok.Reads as lists-ok-reads
-use Rattle.sound.proofs.tally_records.Reads as tally-records-reads
 
 tally-records-requires : tie.Need-tally-records-requires
 tally-records-requires c κs = search needs

@@ -2,8 +2,6 @@ use borrow.Author.Tests.{eq-eqb, ne-eqb}
 use Rattle.sound.specs.IsSound.{unlinked}
 use Rattle.sound.proofs.is_unlinked.Statement.{statement}
 use Rattle.sound.proofs.is_unlinked.Tie as tie
-use Rattle.sound.proofs.is_unlinked.Reads as reads
-use Rattle.sound.proofs.is_unlinked.Lts as lts
 
 returns : tie.Need-returns
 unfolding unlinked

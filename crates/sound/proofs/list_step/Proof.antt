@@ -4,11 +4,6 @@ use Rattle.sound.proofs.Steps.{follows-true, list-unfollowed, list-fall
 use borrow.Author.Needs.{needs}
 use Rattle.sound.proofs.list_step.Statement.{statement}
 use Rattle.sound.proofs.list_step.Tie as tie
-use Rattle.sound.proofs.list_step.Reads as reads
-use Rattle.sound.proofs.list_step.Lts as lts
-use Rattle.align.proofs.size_to_page_order.Reads as size-to-page-order-reads
-use Rattle.sound.proofs.follows.Reads as follows-reads
-use Rattle.sound.proofs.size_at.Reads as size-at-reads
 
 follows-requires : tie.Need-follows-requires
 follows-requires c κs = search needs

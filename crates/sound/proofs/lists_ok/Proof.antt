@@ -1,28 +1,26 @@
-use Prim.Native.Nat.{ℕ, _+_, _-_, _<_, _≤_}
-use mathlib.Core.Path.{_≡_, refl, sym, ap, _∙_}
+use Prim.Native.Nat.{_-_, _≤_}
+use mathlib.Core.Path.{_≡_, refl, sym, _∙_}
 use native.Mathlib.Omega.{arith}
 use borrow.Author.Needs.{needs}
 use lib.Dec.{lit≤}
+use Rattle.rules.specs.Rules.{sizeLists}
 use Rattle.state.specs.Shown.{pool}
 use Rattle.sound.specs.IsSound.{listsOk}
 use Rattle.sound.proofs.Whole.{lists-done, lists-broken, lists-go}
 use Rattle.sound.proofs.lists_ok.Statement.{statement}
 use Rattle.sound.proofs.lists_ok.Tie as tie
-use Rattle.sound.proofs.lists_ok.Reads as reads
-use Rattle.sound.proofs.lists_ok.Lts as lts
-use Rattle.sound.proofs.tally_list.Reads as tally-list-reads
 
 abbrev Inv-loop : tie.InvT-loop
-Inv-loop heads start end enabled lprev lnext count k₀ left₀ k left = (k ≤ 12) × (listsOk pool heads start end enabled lprev lnext 12 0 count ≡ listsOk pool heads start end enabled lprev lnext (12 - k) k left)
+Inv-loop heads start end enabled lprev lnext count k₀ left₀ k left = (k ≤ sizeLists) × (listsOk pool heads start end enabled lprev lnext sizeLists 0 count ≡ listsOk pool heads start end enabled lprev lnext (sizeLists - k) k left)
 
 abbrev μ-loop : tie.MeasureT-loop
-μ-loop heads start end enabled lprev lnext count k₀ left₀ k left = 12 - k
+μ-loop heads start end enabled lprev lnext count k₀ left₀ k left = sizeLists - k
 
 loop-holds : tie.Need-loop-holds Inv-loop μ-loop
 loop-holds c = (lit≤ tt, refl)
 
-cast-n : tie.Need-cast-n Inv-loop μ-loop
-cast-n c = search needs
+cast-t13 : tie.Need-cast-t13 Inv-loop μ-loop
+cast-t13 c = search needs
 
 mul-t15 : tie.Need-mul-t15 Inv-loop μ-loop
 mul-t15 c = search needs
@@ -65,7 +63,7 @@ lists-ok-spec =
     Inv-loop
     μ-loop
     loop-holds
-    cast-n
+    cast-t13
     mul-t15
     element-copy-out-t18
     tally-list-requires

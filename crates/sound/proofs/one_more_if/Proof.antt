@@ -1,8 +1,6 @@
 use borrow.Author.Needs.{needs}
 use Rattle.sound.proofs.one_more_if.Statement.{statement}
 use Rattle.sound.proofs.one_more_if.Tie as tie
-use Rattle.sound.proofs.one_more_if.Reads as reads
-use Rattle.sound.proofs.one_more_if.Lts as lts
 
 add-result : tie.Need-add-result
 add-result c = search needs

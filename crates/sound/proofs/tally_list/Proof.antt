@@ -1,6 +1,6 @@
 use Prim.Native.Nat.{_<_, _≤_}
 use mathlib.Core.Bool.{true}
-use mathlib.Core.Path.{_≡_, refl, sym, ap, _∙_}
+use mathlib.Core.Path.{_≡_, refl, sym, _∙_}
 use native.Mathlib.Omega.{arith}
 use borrow.Author.Needs.{needs}
 use borrow.Author.Tests.{not-true, not-false}
@@ -13,10 +13,6 @@ use Rattle.sound.proofs.Steps.{follows-true, list-true}
 use Rattle.sound.proofs.Walk.{walk-ends, walk-stuck, walk-breaks, walk-goes}
 use Rattle.sound.proofs.tally_list.Statement.{statement}
 use Rattle.sound.proofs.tally_list.Tie as tie
-use Rattle.sound.proofs.tally_list.Reads as reads
-use Rattle.sound.proofs.tally_list.Lts as lts
-use Rattle.sound.proofs.list_step.Reads as list-step-reads
-use Rattle.sound.proofs.size_at.Reads as size-at-reads
 
 abbrev Inv-loop : tie.InvT-loop
 Inv-loop start end enabled lprev lnext k count before₀ cur₀ low₀ left₀ before cur low left = listWalk pool start end enabled lprev lnext (k .0) count none 0 (cur₀ .0) ≡ listWalk pool start end enabled lprev lnext (k .0) left (before .0) low (cur .0)

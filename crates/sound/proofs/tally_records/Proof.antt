@@ -1,6 +1,6 @@
-use Prim.Native.Nat.{ℕ, suc, _-_, _<_, _≤_}
+use Prim.Native.Nat.{ℕ, suc, _-_, _≤_}
 use mathlib.Core.Bool.{true, cond}
-use mathlib.Core.Path.{_≡_, refl, sym, ap, _∙_, subst}
+use mathlib.Core.Path.{_≡_, sym, ap, _∙_}
 use native.Mathlib.Omega.{arith}
 use native.Mathlib.Numerals.{add-one}
 use borrow.Author.Needs.{needs}
@@ -13,10 +13,6 @@ use Rattle.sound.specs.declared.Tally.the-variants.{Of}
 use Rattle.sound.proofs.Records.{all-none, all-more, count-none, count-more, count-at-most, records-broken, records-counted}
 use Rattle.sound.proofs.tally_records.Statement.{statement}
 use Rattle.sound.proofs.tally_records.Tie as tie
-use Rattle.sound.proofs.tally_records.Reads as reads
-use Rattle.sound.proofs.tally_records.Lts as lts
-use Rattle.sound.proofs.one_more_if.Reads as one-more-if-reads
-use Rattle.sound.proofs.record_ok.Reads as record-ok-reads
 
 abbrev Inv-loop : tie.InvT-loop
 Inv-loop start end enabled previous next lprev lnext count₀ i₀ count i = (i ≤ pool) × (all (recordAt start end enabled previous next lprev lnext) i ≡ true) × (count ≡ check.count (used enabled) i)

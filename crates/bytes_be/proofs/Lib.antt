@@ -1,0 +1,3 @@
+-- Laws of numbers in bytes.
+pub mod Laws
+pub mod Loops

@@ -1,0 +1,2 @@
+-- What the contracts cite of numbers in bytes.
+pub mod Numbers

@@ -1,0 +1,39 @@
+// Numbers in bytes, the most significant first, over any width.
+ghost use mathlib.Core.Path.{_≡_};
+ghost use Prim.Native.Nat.{_≤_, _<_, _^_};
+ghost use lib.ListN.{length};
+ghost use Rattle.bytes_be.specs.Numbers.{be, number};
+
+// x in as many bytes as the part has; what does not fit is cut off.
+pub fn put_be(part: &mut [u8], x: u64)
+    ensures { λ _. ⌜ now (part .exit) ≡ be (length (now (part .entry))) x ⌝ }
+{
+    let mut rest = x;
+    let mut i = part.len();
+    while i > 0 {
+        i -= 1;
+        part[i] = (rest % 256) as u8;
+        rest = rest / 256;
+    }
+}
+
+// The number in a part of up to eight bytes.
+pub fn read_be(part: &[u8]) -> u64
+    requires { ⌜ length (now part) ≤ 8 ⌝ }
+    ensures { λ r. ⌜ r ≡ number (now (part .entry)) ⌝ }
+    ensures fits { λ r. ⌜ r < 256 ^ length (now (part .entry)) ⌝ }
+{
+    let mut x: u64 = 0;
+    let mut i = 0;
+    while i < part.len() {
+        x = x * 256 + wide(part[i]);
+        i += 1;
+    }
+    x
+}
+
+fn wide(b: u8) -> u64
+    ensures { λ r. ⌜ r ≡ b ⌝ }
+{
+    b as u64
+}

@@ -1,0 +1,3 @@
+-- What the contracts cite of the byte image.
+pub mod Writing
+pub mod Reading

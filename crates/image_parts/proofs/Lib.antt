@@ -1,0 +1,4 @@
+-- Laws of the parts of an image.
+pub mod Loops
+pub mod Parts
+pub mod Figures
