@@ -9,7 +9,9 @@ use Rattle.rules.specs.Rules.{Range, startOf}
 use Rattle.state.specs.Sound.{bookOf}
 use Rattle.state.specs.declared.MemoryAllocator.{MemoryAllocator}
 use Rattle.sound.specs.IsSound.{isSound}
-use Rattle.listing.specs.Listing.{lastOf, short, shown}
+use Rattle.listing.specs.Listing.{lastOf, listedOf, shown}
+use Rattle.listing.specs.declared.Listed.{Listed}
+use Rattle.listing.specs.declared.Listed.the-variants.{Count, Short}
 use Rattle.calls.specs.declared.Answer.{Answer}
 use Rattle.calls.specs.declared.Answer.the-variants.{Accepted, InvalidEntry, InvalidRequest}
 use Rattle.accounts.specs.declared.Counted.{Counted}
@@ -25,11 +27,12 @@ unfoldable pub totalOf : ℕ → MemoryAllocator → Counted
 totalOf n s = cond (isSound n s) (counted (rules.total (bookOf n s))) (refused InvalidEntry)
 
 -- the number of ranges, if both slices have room for as many
+abbrev pub listedAnswer : Listed → Counted
+listedAnswer (Count c) = counted c
+listedAnswer Short = refused InvalidRequest
+
 unfoldable pub listingOf : ℕ → MemoryAllocator → ℕ → ℕ → Counted
-listingOf n s m k =
-    cond (isSound n s)
-    (cond (short (bookOf n s .chain) m k) (refused InvalidRequest) (counted (length (bookOf n s .chain))))
-    (refused InvalidEntry)
+listingOf n s m k = cond (isSound n s) (listedAnswer (listedOf (bookOf n s .chain) m k)) (refused InvalidEntry)
 
 -- what a slice then holds: the ranges' figures in its first places, and the old contents past them, or everywhere after a refusal
 unfoldable pub shownOf : (Range → ℕ) → ℕ → MemoryAllocator → ℕ → ℕ → List ℕ → List ℕ

@@ -7,7 +7,7 @@ use state::Address;
 use state::MemoryAllocator;
 ghost use mathlib.Core.Path.{_≡_};
 ghost use Rattle.state.specs.Shown.{pool};
-ghost use Rattle.accounts.specs.Accounts.{totalOf, Lists};
+ghost use Rattle.accounts.specs.Accounts.{totalOf, listedAnswer, Lists};
 
 // A number beside the answer; 0 where the answer is a refusal.
 pub struct Counted {
@@ -31,20 +31,10 @@ pub fn total(s: MemoryAllocator) -> Counted
     }
 }
 
-// The first and last byte of each free range, by address, into the first places of two lent slices; the value is their number.
-pub fn listing(s: MemoryAllocator, starts: &mut [u64], lasts: &mut [u64]) -> Counted
-    ensures { λ r. ⌜ Lists pool s (now (starts .entry)) (now (lasts .entry)) r (now (starts .exit)) (now (lasts .exit)) ⌝ }
+// The answer of a listing.
+fn answer_listed(listed: Listed) -> Counted
+    ensures { λ r. ⌜ r ≡ listedAnswer listed ⌝ }
 {
-    if !is_sound(s) {
-        return Counted {
-            answer: Answer::InvalidEntry,
-            value: 0,
-        };
-    }
-    let start = s.start;
-    let end = s.end;
-    let next = s.next;
-    let listed = list_in(&start, &end, &next, s.first_entry, starts, lasts);
     match listed {
         Listed::Count(count) => Counted {
             answer: Answer::Accepted(Address(0)),
@@ -54,5 +44,22 @@ pub fn listing(s: MemoryAllocator, starts: &mut [u64], lasts: &mut [u64]) -> Cou
             answer: Answer::InvalidRequest,
             value: 0,
         },
+    }
+}
+
+// The first and last byte of each free range, by address, into the first places of two lent slices; the value is their number.
+pub fn listing(s: MemoryAllocator, starts: &mut [u64], lasts: &mut [u64]) -> Counted
+    ensures { λ r. ⌜ Lists pool s (now (starts .entry)) (now (lasts .entry)) r (now (starts .exit)) (now (lasts .exit)) ⌝ }
+{
+    if is_sound(s) {
+        let start = s.start;
+        let end = s.end;
+        let next = s.next;
+        let listed = list_in(&start, &end, &next, s.first_entry, starts, lasts);
+        return answer_listed(listed);
+    }
+    Counted {
+        answer: Answer::InvalidEntry,
+        value: 0,
     }
 }
