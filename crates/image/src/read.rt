@@ -25,12 +25,9 @@ use state::LISTS;
 use state::MemoryAllocator;
 use state::NONE;
 use state::POOL;
-use state::RecordIndex;
+use state::new;
 ghost use mathlib.Core.Path.{_≡_};
 ghost use lib.ListN.{length};
-ghost use Rattle.rules.specs.Rules.{empty};
-ghost use Rattle.state.specs.Shown.{pool};
-ghost use Rattle.state.specs.State.{stateOf};
 ghost use Rattle.image_parts.specs.Layout.{current, imageSize};
 ghost use Rattle.image.specs.Reading.{framed, stateIn, handed, refused, readingOf};
 
@@ -87,37 +84,11 @@ fn state_in(image: &[u8]) -> MemoryAllocator
     }
 }
 
-fn fresh() -> MemoryAllocator
-    ensures { λ r. ⌜ r ≡ stateOf pool empty ⌝ }
-{
-    let none = RecordIndex(NONE);
-    let heads = [NONE; LISTS];
-    let start = [0u64; POOL];
-    let end = [0u64; POOL];
-    let enabled = [false; POOL];
-    let previous = [NONE; POOL];
-    let next = [NONE; POOL];
-    let lprev = [NONE; POOL];
-    let lnext = [NONE; POOL];
-    MemoryAllocator {
-        free_size: 0,
-        first_entry: none,
-        free_list: heads,
-        start: start,
-        end: end,
-        enabled: enabled,
-        previous: previous,
-        next: next,
-        list_prev: lprev,
-        list_next: lnext,
-    }
-}
-
 fn refusal() -> Reading
     ensures { λ r. ⌜ handed (r .answer) (r .state) ≡ refused current ⌝ }
 {
     let answer = ImageAnswer::InvalidEntry;
-    let state = fresh();
+    let state = new();
     Reading {
         answer: answer,
         state: state,

@@ -5,16 +5,14 @@ use calls::free_in;
 use calls::reserve_in;
 use sound::is_sound;
 use state::Address;
-use state::LISTS;
 use state::MemoryAllocator;
-use state::NONE;
-use state::POOL;
 use state::RecordIndex;
+pub use state::new;
 ghost use mathlib.Core.Path.{_≡_};
 ghost use Rattle.rules.specs.Rules as rules;
-ghost use Rattle.rules.specs.Rules.{Book, empty};
+ghost use Rattle.rules.specs.Rules.{Book};
 ghost use Rattle.state.specs.Shown.{pool};
-ghost use Rattle.state.specs.State.{Holds, stateOf};
+ghost use Rattle.state.specs.State.{Holds};
 ghost use Rattle.calls.specs.Answers.{Answers};
 ghost use Rattle.memory_allocator.specs.Promises.{allocateOf, reserveOf, freeOf};
 
@@ -22,24 +20,6 @@ ghost use Rattle.memory_allocator.specs.Promises.{allocateOf, reserveOf,
 pub struct Outcome {
     pub answer: Answer,
     pub state: MemoryAllocator,
-}
-
-// The empty allocator.
-pub fn new() -> MemoryAllocator
-    ensures { λ r. ⌜ r ≡ stateOf pool empty ⌝ }
-{
-    MemoryAllocator {
-        free_size: 0,
-        first_entry: RecordIndex(NONE),
-        free_list: [NONE; LISTS],
-        start: [0; POOL],
-        end: [0; POOL],
-        enabled: [false; POOL],
-        previous: [NONE; POOL],
-        next: [NONE; POOL],
-        list_prev: [NONE; POOL],
-        list_next: [NONE; POOL],
-    }
 }
 
 // `allocate` of a sound state.

@@ -1,4 +1,8 @@
 // The allocator's state, and the kinds of number in it.
+ghost use mathlib.Core.Path.{_≡_};
+ghost use Rattle.rules.specs.Rules.{empty};
+ghost use Rattle.state.specs.Shown.{pool};
+ghost use Rattle.state.specs.State.{stateOf};
 
 // The number of records, and of size lists.
 pub const POOL: usize = 64;
@@ -31,4 +35,22 @@ pub struct MemoryAllocator {
     pub next: [u16; POOL],
     pub list_prev: [u16; POOL],
     pub list_next: [u16; POOL],
+}
+
+// The empty allocator.
+pub fn new() -> MemoryAllocator
+    ensures { λ r. ⌜ r ≡ stateOf pool empty ⌝ }
+{
+    MemoryAllocator {
+        free_size: 0,
+        first_entry: RecordIndex(NONE),
+        free_list: [NONE; LISTS],
+        start: [0; POOL],
+        end: [0; POOL],
+        enabled: [false; POOL],
+        previous: [NONE; POOL],
+        next: [NONE; POOL],
+        list_prev: [NONE; POOL],
+        list_next: [NONE; POOL],
+    }
 }

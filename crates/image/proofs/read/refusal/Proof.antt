@@ -1,11 +1,11 @@
 use Rattle.image.proofs.read.refusal.Statement.{statement}
 use Rattle.image.proofs.read.refusal.Tie as tie
 
-fresh-requires : tie.Need-fresh-requires
-fresh-requires c κs = tt
+new-requires : tie.Need-new-requires
+new-requires c κs = tt
 
 returns : tie.Need-returns
-returns c = rw (c .fresh .ensures)
+returns c = rw (c .new .ensures)
 
 pub refusal-spec : {M : Type 1} → statement M
-refusal-spec = tie.close (tie.spec fresh-requires returns)
+refusal-spec = tie.close (tie.spec new-requires returns)

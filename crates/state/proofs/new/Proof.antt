@@ -1,9 +1,9 @@
 use mathlib.Core.Path.{refl}
 use Rattle.lists.specs.Links.{tab}
 use Rattle.rules.specs.Rules.{find, ofList, sum}
 use Rattle.state.specs.State.{inRecord, stateOf}
-use Rattle.memory_allocator.proofs.new.Statement.{statement}
-use Rattle.memory_allocator.proofs.new.Tie as tie
+use Rattle.state.proofs.new.Statement.{statement}
+use Rattle.state.proofs.new.Tie as tie
 
 returns : tie.Need-returns
 unfolding stateOf inRecord find ofList sum tab
