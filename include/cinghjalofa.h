@@ -1,0 +1,87 @@
+/*
+ * The memory-range allocator over a byte image that the caller lends: four calls for C99 and C++.
+ *
+ * The image
+ *   The whole state lies in CINGHJALOFA_IMAGE_BYTES bytes of the caller's memory. The library keeps nothing between
+ *   calls, allocates nothing, reads no other memory and calls nothing but memcpy, memmove, memset and memcmp. An image
+ *   may be copied, stored and lent again at another address; the address may have any alignment. cinghjalofa_new makes
+ *   the first image.
+ *
+ * What the caller owes
+ *   `image` points to `len` bytes that may be read and written. With `len` 0 it is not followed and may be NULL.
+ *   No two calls over the same image run at the same time: the library takes no lock. Calls over different images
+ *   may run side by side.
+ *   Nothing is owed about the contents or about the numbers: every call ends with one of the answers below.
+ *
+ * The answer
+ *   0 or more: accepted. It is the address for cinghjalofa_allocate and 0 for the others.
+ *   Below 0: refused, for the first reason that applies in the order in which each function lists them. A refusal
+ *   changes no byte of the image. No accepted call writes outside the image.
+ *   A slice of another length is refused with -2 before anything else, and before a byte of it is read. An image that
+ *   no sound allocator writes (damaged, or of another version) is refused with -2 before a bad request is with -4.
+ *
+ * Addresses run from 0 to 2^63-1 and sizes count bytes. An alignment order n, 0 to 63, means a multiple of 2^n. There
+ * are 64 records, one for each free range. The total is the number of free bytes. Sums are mathematical, never wrapped.
+ */
+#ifndef CINGHJALOFA_H
+#define CINGHJALOFA_H
+
+#include <stddef.h>
+#include <stdint.h>
+
+/* The length of an image; any other `len` is refused. */
+#define CINGHJALOFA_IMAGE_BYTES 1370
+
+/* The refusals. */
+#define CINGHJALOFA_NO_ENTRY (-1)        /* a record is needed and none is unused, or the only range would go whole */
+#define CINGHJALOFA_INVALID_ENTRY (-2)   /* the slice is no image of a sound allocator */
+#define CINGHJALOFA_NO_MEMORY (-3)       /* too few free bytes, or no free range fits */
+#define CINGHJALOFA_INVALID_REQUEST (-4) /* size 0, order above 63, or a bad or overlapping range */
+
+#ifdef __cplusplus
+extern "C" {
+#endif
+
+/*
+ * Writes the image of the empty allocator over whatever is there, and answers 0.
+ *   -2  len is not CINGHJALOFA_IMAGE_BYTES
+ */
+int64_t cinghjalofa_new(uint8_t *image, size_t len);
+
+/*
+ * Takes `size` free bytes and answers the address of the first, a multiple of 2^order. They come from the first free
+ * range that fits once its start is rounded up; smaller ranges are tried first, and the newest first among equals.
+ *   -2  len is not CINGHJALOFA_IMAGE_BYTES, or the image is not sound
+ *   -4  size is 0, or order is above 63
+ *   -3  size is the total or more (the last free bytes are never handed out), or no range fits
+ *   -1  the chosen range would fall into two pieces and all records are used; no further range is tried
+ */
+int64_t cinghjalofa_allocate(uint8_t *image, size_t len, uint64_t size, uint64_t order);
+
+/*
+ * Takes the bytes from `start` to `start + size - 1`, widened first: the start is rounded down, the end up, to
+ * multiples of 2^order. Answers 0.
+ *   -2  len is not CINGHJALOFA_IMAGE_BYTES, or the image is not sound
+ *   -4  size is 0, or order is above 63
+ *   -3  size is above the total
+ *   -4  start + size is above 2^63
+ *   -3  the widened size is above the total
+ *   -4  the widened range does not lie inside one free range
+ *   -1  the widened range is the only free range, whole
+ *   -1  the free range would fall into two pieces and all records are used
+ */
+int64_t cinghjalofa_reserve_memory(uint8_t *image, size_t len, uint64_t start, uint64_t size, uint64_t order);
+
+/*
+ * Makes the bytes from `start` to `start + size - 1` free and joins them with the free ranges they touch. Answers 0.
+ *   -2  len is not CINGHJALOFA_IMAGE_BYTES, or the image is not sound
+ *   -4  size is 0, start + size is above 2^63, or one of the bytes is free already
+ *   -1  the bytes touch no free range and all records are used
+ */
+int64_t cinghjalofa_free(uint8_t *image, size_t len, uint64_t start, uint64_t size);
+
+#ifdef __cplusplus
+}
+#endif
+
+#endif

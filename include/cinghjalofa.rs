@@ -1,0 +1,81 @@
+// The memory-range allocator over a byte image that the caller lends: four calls for Rust, `no_std`, edition 2021.
+// Take the file in as a module, by `#[path = ".."] mod cinghjalofa;` or `mod cinghjalofa { include!(".."); }`, and link
+// with the static library.
+//
+// The image
+//   The whole state lies in IMAGE_BYTES bytes of the caller's memory. The library keeps nothing between calls, allocates
+//   nothing, reads no other memory and calls nothing but memcpy, memmove, memset and memcmp. An image may be copied, stored
+//   and lent again at another address; the address may have any alignment. `new` makes the first image.
+//
+// The answer
+//   0 or more: accepted. It is the address for `allocate` and 0 for the others.
+//   Below 0: refused, for the first reason that applies in the order in which each function lists them. A refusal changes
+//   no byte of the image. No accepted call writes outside the image.
+//   A slice of another length is refused with -2 before anything else, and before a byte of it is read. An image that no
+//   sound allocator writes (damaged, or of another version) is refused with -2 before a bad request is with -4.
+//
+// The functions over slices are safe: they ask nothing about contents or numbers and never panic. `&mut` keeps two calls
+// over one image apart; the library itself takes no lock.
+//
+// Addresses run from 0 to 2^63-1 and sizes count bytes. An alignment order n, 0 to 63, means a multiple of 2^n. There are
+// 64 records, one for each free range. The total is the number of free bytes. Sums are mathematical, never wrapped.
+
+/// The length of an image; a slice of any other length is refused.
+pub const IMAGE_BYTES: usize = 1370;
+
+/// A record is needed and none is unused, or the only range would go whole.
+pub const NO_ENTRY: i64 = -1;
+/// The slice is no image of a sound allocator.
+pub const INVALID_ENTRY: i64 = -2;
+/// Too few free bytes, or no free range fits.
+pub const NO_MEMORY: i64 = -3;
+/// Size 0, order above 63, or a bad or overlapping range.
+pub const INVALID_REQUEST: i64 = -4;
+
+// What a caller of these owes: `image` points to `len` bytes that may be read and written, and that nobody else reads or
+// writes during the call. With `len` 0 it is not followed and may be null.
+extern "C" {
+    pub fn cinghjalofa_new(image: *mut u8, len: usize) -> i64;
+    pub fn cinghjalofa_allocate(image: *mut u8, len: usize, size: u64, order: u64) -> i64;
+    pub fn cinghjalofa_reserve_memory(image: *mut u8, len: usize, start: u64, size: u64, order: u64) -> i64;
+    pub fn cinghjalofa_free(image: *mut u8, len: usize, start: u64, size: u64) -> i64;
+}
+
+/// Writes the image of the empty allocator over whatever is there, and answers 0.
+/// - -2: the slice is not `IMAGE_BYTES` long
+pub fn new(image: &mut [u8]) -> i64 {
+    // Safety: pointer and length are those of a slice that is borrowed for the whole call; so in each function below.
+    unsafe { cinghjalofa_new(image.as_mut_ptr(), image.len()) }
+}
+
+/// Takes `size` free bytes and answers the address of the first, a multiple of 2^order. They come from the first free
+/// range that fits once its start is rounded up; smaller ranges are tried first, and the newest first among equals.
+/// - -2: the slice is not `IMAGE_BYTES` long, or the image is not sound
+/// - -4: `size` is 0, or `order` is above 63
+/// - -3: `size` is the total or more (the last free bytes are never handed out), or no range fits
+/// - -1: the chosen range would fall into two pieces and all records are used; no further range is tried
+pub fn allocate(image: &mut [u8], size: u64, order: u64) -> i64 {
+    unsafe { cinghjalofa_allocate(image.as_mut_ptr(), image.len(), size, order) }
+}
+
+/// Takes the bytes from `start` to `start + size - 1`, widened first: the start is rounded down, the end up, to multiples
+/// of 2^order. Answers 0.
+/// - -2: the slice is not `IMAGE_BYTES` long, or the image is not sound
+/// - -4: `size` is 0, or `order` is above 63
+/// - -3: `size` is above the total
+/// - -4: `start + size` is above 2^63
+/// - -3: the widened size is above the total
+/// - -4: the widened range does not lie inside one free range
+/// - -1: the widened range is the only free range, whole
+/// - -1: the free range would fall into two pieces and all records are used
+pub fn reserve_memory(image: &mut [u8], start: u64, size: u64, order: u64) -> i64 {
+    unsafe { cinghjalofa_reserve_memory(image.as_mut_ptr(), image.len(), start, size, order) }
+}
+
+/// Makes the bytes from `start` to `start + size - 1` free and joins them with the free ranges they touch. Answers 0.
+/// - -2: the slice is not `IMAGE_BYTES` long, or the image is not sound
+/// - -4: `size` is 0, `start + size` is above 2^63, or one of the bytes is free already
+/// - -1: the bytes touch no free range and all records are used
+pub fn free(image: &mut [u8], start: u64, size: u64) -> i64 {
+    unsafe { cinghjalofa_free(image.as_mut_ptr(), image.len(), start, size) }
+}

@@ -1,0 +1,162 @@
+/*
+ * Ports broken on purpose: the real calls with one mistake around them, linked in by the linker's --wrap. The variable
+ * C_CALLS_BREAKAGE names the mistake.
+ */
+#include "cinghjalofa.h"
+
+#include <stdio.h>
+#include <stdlib.h>
+#include <string.h>
+
+#define IMAGE_BYTES CINGHJALOFA_IMAGE_BYTES
+#define RECORDS 64
+#define GO_ON 1 /* no refusal */
+
+int64_t __real_cinghjalofa_new(uint8_t *image, size_t len);
+int64_t __real_cinghjalofa_allocate(uint8_t *image, size_t len, uint64_t size, uint64_t order);
+int64_t __real_cinghjalofa_reserve_memory(uint8_t *image, size_t len, uint64_t start, uint64_t size, uint64_t order);
+int64_t __real_cinghjalofa_free(uint8_t *image, size_t len, uint64_t start, uint64_t size);
+
+static uint8_t old_image[IMAGE_BYTES];
+
+static int is_breakage(const char *name)
+{
+    static const char *chosen;
+
+    if (!chosen)
+        chosen = getenv("C_CALLS_BREAKAGE");
+    if (!chosen) {
+        fprintf(stderr, "C_CALLS_BREAKAGE names no breakage\n");
+        exit(2);
+    }
+    return strcmp(chosen, name) == 0;
+}
+
+static uint8_t *record_at(uint8_t *image, int number)
+{
+    return image + 26 + 21 * number;
+}
+
+static uint64_t number_at(const uint8_t *bytes)
+{
+    uint64_t number = 0;
+
+    for (int i = 0; i < 8; i++)
+        number = number << 8 | bytes[i];
+    return number;
+}
+
+static void correct_total(uint8_t *image)
+{
+    uint64_t total = 0;
+
+    for (int k = 0; k < RECORDS; k++) {
+        const uint8_t *record = record_at(image, k);
+        if (record[16] == 1)
+            total += number_at(record + 8) - number_at(record) + 1;
+    }
+    for (int i = 0; i < 8; i++)
+        image[5 + i] = (uint8_t)(total >> (56 - 8 * i));
+}
+
+static void freshen_unused(uint8_t *image)
+{
+    for (int k = 0; k < RECORDS; k++) {
+        uint8_t *record = record_at(image, k);
+        if (record[16] == 0) {
+            memset(record, 0, 17);
+            memset(record + 17, 255, 4);
+        }
+    }
+}
+
+static int reaches_top(uint8_t *image)
+{
+    for (int k = 0; k < RECORDS; k++)
+        if (number_at(record_at(image, k) + 8) == INT64_MAX)
+            return 1;
+    return 0;
+}
+
+/* Before any real call: a refusal of the broken port's own, or GO_ON. */
+static int64_t begin(uint8_t *image, size_t *len)
+{
+    if (is_breakage("length-last"))
+        for (volatile const uint8_t *byte = image; image && byte < image + IMAGE_BYTES; byte++)
+            (void)*byte;
+    if (is_breakage("length-ignored") && image)
+        *len = IMAGE_BYTES;
+    if (*len != IMAGE_BYTES)
+        return GO_ON;
+    if (is_breakage("alignment-needed") && (uintptr_t)image % 8 != 0)
+        return -2;
+    memcpy(old_image, image, IMAGE_BYTES);
+    return GO_ON;
+}
+
+/* The same before a call that reads the image. */
+static int64_t begin_request(uint8_t *image, size_t *len, uint64_t size, uint64_t order)
+{
+    int64_t refusal = begin(image, len);
+
+    if (refusal != GO_ON || *len != IMAGE_BYTES)
+        return refusal;
+    if (is_breakage("request-first") && (size == 0 || order > 63))
+        return -4;
+    if (is_breakage("top-refused") && reaches_top(image))
+        return -2;
+    if (is_breakage("total-unchecked"))
+        correct_total(image);
+    if (is_breakage("unused-unchecked"))
+        freshen_unused(image);
+    return GO_ON;
+}
+
+/* After it: the answer of the broken port. */
+static int64_t end(uint8_t *image, size_t len, int64_t answer)
+{
+    if (is_breakage("one-for-two") && answer == -2)
+        return -1;
+    if (len != IMAGE_BYTES)
+        return answer;
+    if (answer < 0)
+        memcpy(image, old_image, IMAGE_BYTES);
+    if (is_breakage("refusal-writes") && answer < 0)
+        image[IMAGE_BYTES - 1] ^= 1;
+    if (is_breakage("writes-behind") && answer >= 0)
+        image[IMAGE_BYTES] ^= 1;
+    return answer;
+}
+
+int64_t __wrap_cinghjalofa_new(uint8_t *image, size_t len)
+{
+    int64_t answer = begin(image, &len);
+
+    if (answer != GO_ON)
+        return answer;
+    answer = __real_cinghjalofa_new(image, len);
+    if (is_breakage("new-keeps-records") && answer == 0)
+        memcpy(record_at(image, 0), record_at(old_image, 0), 21 * RECORDS);
+    return end(image, len, answer);
+}
+
+int64_t __wrap_cinghjalofa_allocate(uint8_t *image, size_t len, uint64_t size, uint64_t order)
+{
+    int64_t refusal = begin_request(image, &len, size, order);
+
+    return refusal != GO_ON ? refusal : end(image, len, __real_cinghjalofa_allocate(image, len, size, order));
+}
+
+int64_t __wrap_cinghjalofa_reserve_memory(uint8_t *image, size_t len, uint64_t start, uint64_t size, uint64_t order)
+{
+    int64_t refusal = begin_request(image, &len, size, order);
+
+    return refusal != GO_ON ? refusal : end(image, len, __real_cinghjalofa_reserve_memory(image, len, start, size, order));
+}
+
+int64_t __wrap_cinghjalofa_free(uint8_t *image, size_t len, uint64_t start, uint64_t size)
+{
+    int64_t refusal = begin_request(image, &len, size, 0);
+
+    return refusal != GO_ON ? refusal : end(image, len, __real_cinghjalofa_free(image, len, start, size));
+}

@@ -1,0 +1,38 @@
+/* What the parts of the C program share: a call, the fenced area that it is made in, and the report. */
+#ifndef CALLS_H
+#define CALLS_H
+
+#include "cinghjalofa.h"
+
+#define AREA_BYTES 65536
+#define IMAGE_BYTES CINGHJALOFA_IMAGE_BYTES
+
+enum kind { NEW, ALLOCATE, RESERVE, FREE };
+
+struct call {
+    enum kind kind;
+    uint64_t start, size, order;
+};
+
+/* area.c: AREA_BYTES of memory between two fences that end the program where they are touched */
+extern uint8_t *area;
+void open_area(void);
+void fill_area(void);
+void put_image(const uint8_t *image, size_t at);
+
+/*
+ * Lends the area's bytes from `at` on, `len` of them, to one call. A byte that changed outside the slice, or anywhere
+ * after a refusal, is a failure; and so is an answer that is not the wanted one.
+ */
+int64_t lend(struct call call, size_t at, size_t len);
+void expect(struct call call, size_t at, size_t len, int64_t wanted, const char *why);
+
+/* the report */
+extern unsigned long calls_made, failures;
+void fail(const char *what);
+
+/* contract.c, cases.c: the tests */
+void test_contract(void);
+void test_cases(const char *path);
+
+#endif

@@ -1,0 +1,17 @@
+/* The C calls from C: `calls CASES`. Exit status 0: all as it must be; 1: something was not; 2: it could not be tried. */
+#include "calls.h"
+
+#include <stdio.h>
+
+int main(int count, char **words)
+{
+    if (count != 2) {
+        fprintf(stderr, "usage: %s CASES\n", words[0]);
+        return 2;
+    }
+    open_area();
+    test_contract();
+    test_cases(words[1]);
+    printf("%lu calls, %lu failures\n", calls_made, failures);
+    return failures ? 1 : 0;
+}

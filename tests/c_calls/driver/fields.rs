@@ -1,0 +1,164 @@
+//! Every field of an image as it stands in the bytes, right or wrong, and images with ranges of one's choice.
+
+use crate::lent::IMAGE_BYTES;
+
+pub const RECORDS: usize = 64;
+pub const LISTS: usize = 12;
+pub const NONE: u8 = 255;
+
+pub const TOTAL_AT: usize = 5;
+pub const FIRST_AT: usize = 13;
+pub const HEADS_AT: usize = 14;
+pub const RECORDS_AT: usize = 26;
+pub const RECORD_BYTES: usize = 21;
+pub const LINKS_AT: usize = 17;
+
+#[derive(Clone, Copy, PartialEq)]
+pub struct Record {
+    pub start: u64,
+    pub end: u64,
+    pub enabled: u8,
+    pub previous: u8,
+    pub next: u8,
+    pub list_prev: u8,
+    pub list_next: u8,
+}
+
+pub const FRESH: Record =
+    Record { start: 0, end: 0, enabled: 0, previous: NONE, next: NONE, list_prev: NONE, list_next: NONE };
+
+impl Record {
+    /// Meant for start <= end; any other range gives some number.
+    pub fn size(&self) -> u64 {
+        self.end.wrapping_sub(self.start).wrapping_add(1)
+    }
+}
+
+#[derive(Clone)]
+pub struct Fields {
+    pub version: u8,
+    pub rest: u32,
+    pub total: u64,
+    pub first: u8,
+    pub heads: [u8; LISTS],
+    pub records: [Record; RECORDS],
+}
+
+/// The least k from 0 with size <= 4096 * 2^k, but never above 11.
+pub fn list_number(size: u64) -> usize {
+    (0..LISTS - 1).find(|&k| size <= 4096 << k).unwrap_or(LISTS - 1)
+}
+
+impl Fields {
+    pub fn read(image: &[u8; IMAGE_BYTES]) -> Fields {
+        let mut fields = Fields {
+            version: image[0],
+            rest: u32::from_be_bytes(image[1..TOTAL_AT].try_into().unwrap()),
+            total: number(&image[TOTAL_AT..]),
+            first: image[FIRST_AT],
+            heads: image[HEADS_AT..RECORDS_AT].try_into().unwrap(),
+            records: [FRESH; RECORDS],
+        };
+        for (record, bytes) in fields.records.iter_mut().zip(image[RECORDS_AT..].chunks(RECORD_BYTES)) {
+            *record = Record {
+                start: number(bytes),
+                end: number(&bytes[8..]),
+                enabled: bytes[16],
+                previous: bytes[LINKS_AT],
+                next: bytes[18],
+                list_prev: bytes[19],
+                list_next: bytes[20],
+            };
+        }
+        fields
+    }
+
+    pub fn write(&self) -> [u8; IMAGE_BYTES] {
+        let mut image = [0; IMAGE_BYTES];
+        image[0] = self.version;
+        image[1..TOTAL_AT].copy_from_slice(&self.rest.to_be_bytes());
+        image[TOTAL_AT..FIRST_AT].copy_from_slice(&self.total.to_be_bytes());
+        image[FIRST_AT] = self.first;
+        image[HEADS_AT..RECORDS_AT].copy_from_slice(&self.heads);
+        for (record, bytes) in self.records.iter().zip(image[RECORDS_AT..].chunks_mut(RECORD_BYTES)) {
+            bytes[..8].copy_from_slice(&record.start.to_be_bytes());
+            bytes[8..16].copy_from_slice(&record.end.to_be_bytes());
+            bytes[16] = record.enabled;
+            bytes[LINKS_AT..].copy_from_slice(&[record.previous, record.next, record.list_prev, record.list_next]);
+        }
+        image
+    }
+
+    /// An image that is right in all but, perhaps, the ranges: records 0, 1, .. hold them, chained in the order given.
+    pub fn of_ranges(ranges: &[(u64, u64)]) -> Fields {
+        let no_links = [NONE; LISTS];
+        let mut fields =
+            Fields { version: 1, rest: 1365, total: 0, first: NONE, heads: no_links, records: [FRESH; RECORDS] };
+        for (record, &(start, end)) in fields.records.iter_mut().zip(ranges) {
+            *record = Record { start, end, enabled: 1, ..FRESH };
+        }
+        let chain: Vec<usize> = (0..ranges.len()).collect();
+        fields.link_chain(&chain);
+        for list in 0..LISTS {
+            let mut members: Vec<usize> = chain.clone();
+            members.retain(|&at| list_number(fields.records[at].size()) == list);
+            members.sort_by_key(|&at| fields.records[at].size());
+            fields.link_list(list, &members);
+        }
+        fields.correct_total();
+        fields
+    }
+
+    pub fn correct_total(&mut self) {
+        let used = self.records.iter().filter(|record| record.enabled == 1);
+        self.total = used.fold(0, |sum, record| sum.wrapping_add(record.size()));
+    }
+
+    pub fn unused(&self) -> Vec<usize> {
+        (0..RECORDS).filter(|&at| self.records[at].enabled == 0).collect()
+    }
+
+    /// The records of the chain, by address. The links must be right.
+    pub fn chain(&self) -> Vec<usize> {
+        follow(self.first, |at| self.records[at].next)
+    }
+
+    /// The records of a list. The links must be right.
+    pub fn list(&self, list: usize) -> Vec<usize> {
+        follow(self.heads[list], |at| self.records[at].list_next)
+    }
+
+    pub fn link_chain(&mut self, order: &[usize]) {
+        self.first = link(order.first());
+        for (at, &record) in order.iter().enumerate() {
+            self.records[record].previous = link(at.checked_sub(1).map(|before| &order[before]));
+            self.records[record].next = link(order.get(at + 1));
+        }
+    }
+
+    pub fn link_list(&mut self, list: usize, order: &[usize]) {
+        self.heads[list] = link(order.first());
+        for (at, &record) in order.iter().enumerate() {
+            self.records[record].list_prev = link(at.checked_sub(1).map(|before| &order[before]));
+            self.records[record].list_next = link(order.get(at + 1));
+        }
+    }
+}
+
+fn follow(first: u8, next: impl Fn(usize) -> u8) -> Vec<usize> {
+    let mut met = Vec::new();
+    let mut at = first as usize;
+    while at < RECORDS && met.len() < RECORDS {
+        met.push(at);
+        at = next(at) as usize;
+    }
+    met
+}
+
+fn link(record: Option<&usize>) -> u8 {
+    record.map_or(NONE, |&at| at as u8)
+}
+
+fn number(bytes: &[u8]) -> u64 {
+    u64::from_be_bytes(bytes[..8].try_into().unwrap())
+}

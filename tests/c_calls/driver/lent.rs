@@ -1,0 +1,86 @@
+//! A slice between guard bytes, lent to one call at a time through the safe functions of include/cinghjalofa.rs.
+
+use crate::report::Report;
+use declared::by_path as cinghjalofa;
+use std::fmt;
+
+pub use cinghjalofa::IMAGE_BYTES;
+
+const GUARD: u8 = 0xc9;
+const GUARDS: usize = 64;
+
+#[derive(Clone, Copy)]
+pub enum Call {
+    New,
+    Allocate { size: u64, order: u64 },
+    Reserve { start: u64, size: u64, order: u64 },
+    Free { start: u64, size: u64 },
+}
+
+impl fmt::Display for Call {
+    fn fmt(&self, to: &mut fmt::Formatter) -> fmt::Result {
+        match self {
+            Call::New => write!(to, "new"),
+            Call::Allocate { size, order } => write!(to, "allocate(size {size}, order {order})"),
+            Call::Reserve { start, size, order } => {
+                write!(to, "reserve_memory(start {start}, size {size}, order {order})")
+            }
+            Call::Free { start, size } => write!(to, "free(start {start}, size {size})"),
+        }
+    }
+}
+
+/// Room for a slice of any length up to `most`, with guards on both sides.
+pub struct Lent {
+    room: Vec<u8>,
+    at: usize,
+    len: usize,
+}
+
+impl Lent {
+    /// The slices begin `shift` bytes, 0 to 63, after a multiple of 64.
+    pub fn new(most: usize, shift: usize) -> Lent {
+        let room = vec![GUARD; most + 4 * GUARDS];
+        let at = GUARDS + room.as_ptr().align_offset(64) + shift;
+        Lent { room, at, len: 0 }
+    }
+
+    /// The slice as the last call left it.
+    pub fn slice(&self) -> &[u8] {
+        &self.room[self.at..self.at + self.len]
+    }
+
+    /// Makes one call over a slice with these contents. A guard that changed, or a byte after a refusal, is a failure.
+    pub fn call(&mut self, contents: &[u8], call: Call, report: &mut Report) -> i64 {
+        let (at, end) = (self.at, self.at + contents.len());
+        self.len = contents.len();
+        self.room.fill(GUARD);
+        self.room[at..end].copy_from_slice(contents);
+        let answer = make(&mut self.room[at..end], call);
+        report.calls += 1;
+        if self.room[..at].iter().chain(&self.room[end..]).any(|&byte| byte != GUARD) {
+            report.fail(&format!("{call} over {} bytes changed a byte beside the slice", self.len));
+        }
+        if answer < 0 && self.slice() != contents {
+            report.fail(&format!("{call} over {} bytes was refused with {answer} and changed a byte", self.len));
+        }
+        answer
+    }
+
+    pub fn expect(&mut self, contents: &[u8], call: Call, wanted: i64, why: &str, report: &mut Report) {
+        let answer = self.call(contents, call, report);
+        if answer != wanted {
+            let len = contents.len();
+            report.fail(&format!("{call} over {len} bytes answered {answer}, must be {wanted} ({why})"));
+        }
+    }
+}
+
+fn make(slice: &mut [u8], call: Call) -> i64 {
+    match call {
+        Call::New => cinghjalofa::new(slice),
+        Call::Allocate { size, order } => cinghjalofa::allocate(slice, size, order),
+        Call::Reserve { start, size, order } => cinghjalofa::reserve_memory(slice, start, size, order),
+        Call::Free { start, size } => cinghjalofa::free(slice, start, size),
+    }
+}
