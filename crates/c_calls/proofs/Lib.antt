@@ -1,0 +1,3 @@
+-- Laws of the C calls.
+pub mod Below
+pub mod Ways

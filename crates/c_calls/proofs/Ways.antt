@@ -1,0 +1,121 @@
+-- What the definitions give on each way through the code, for any call. Assumes nothing.
+use Prim.Native.Nat.{ℕ, _<_, _≤_}
+use mathlib.Core.Bool.{Bool, true, false, not}
+use mathlib.Core.List.{List}
+use mathlib.Core.Path.{_≡_, refl, sym, ap, _∙_, subst}
+use native.Mathlib.Omega.{arith}
+use lib.Dec.{lit<}
+use lib.IntN.{ℤ, pos}
+use lib.Signed.{ltZ}
+use lib.ListN.{length}
+use borrow.Author.Tests.{eq-eqb, ne-eqb, le-ltb}
+use Rattle.lists.specs.Links.{none}
+use Rattle.rules.specs.Rules.{top, Book, empty, Call, step}
+use Rattle.laws.proofs.Kept.{empty-sound}
+use Rattle.laws.proofs.History.{step-sound}
+use Rattle.state.specs.State.{stateOf}
+use Rattle.state.specs.Sound.{bookOf, SoundState}
+use Rattle.state.specs.declared.Address.{Address}
+use Rattle.state.specs.declared.MemoryAllocator.{MemoryAllocator}
+use Rattle.sound.specs.IsSound.{isSound}
+use Rattle.calls.specs.Answers.{addressOf}
+use Rattle.calls.specs.declared.Answer.{Answer}
+use Rattle.calls.specs.declared.Answer.the-variants.{Accepted, NoEntry, InvalidEntry, NoMemory, InvalidRequest}
+use Rattle.memory_allocator.specs.Promises.{held}
+use Rattle.memory_allocator.specs.Histories.{made}
+use Rattle.memory_allocator.specs.declared.Outcome.{Outcome}
+use Rattle.memory_allocator.proofs.Steps.{stands, made-held, made-voucher}
+use Rattle.bytes_be.specs.Numbers.{Bytes}
+use Rattle.image_parts.specs.Layout.{Layout, imageSize}
+use Rattle.image.specs.Writing as writing
+use Rattle.image.specs.Writing.{Written, imageOf, written, writingOf}
+use Rattle.image.specs.Reading.{Handed, handed, readingOf}
+use Rattle.image.specs.declared.ImageAnswer as image
+use Rattle.image.specs.declared.ImageAnswer.the-variants as image-answer
+use Rattle.image.proofs.Ways.{done}
+use Rattle.image.proofs.Fitting.{Lawful, sound-fits}
+use Rattle.image.proofs.ReadBack.{frame-back}
+use Rattle.image.proofs.Rounds.{read-written, accepted-image}
+use Rattle.c_calls.specs.CCalls.{Returned, returned, signedOf, isAccepted, finished, callOver, begun, newOver, over, Finishes}
+use Rattle.c_calls.proofs.Below.{step-below}
+
+-- ---- an outcome
+
+flip : (b c : Bool) → not b ≡ c → b ≡ not c
+flip true c e = ap not e
+flip false c e = ap not e
+
+-- a number below 0 is a refusal's, and no other is
+refusal-negative : (k : Answer) → ltZ (signedOf k) (pos 0) ≡ not (isAccepted k)
+refusal-negative (Accepted a) = le-ltb (a .0) 0 (omega arith)
+refusal-negative NoEntry = refl
+refusal-negative InvalidEntry = refl
+refusal-negative NoMemory = refl
+refusal-negative InvalidRequest = refl
+
+module _ (f : Layout) (r : Outcome) (l : List ℕ) (i : ℤ) (number : i ≡ signedOf (r .answer)) where
+  accepts : (t : Bool) → ltZ i (pos 0) ≡ t → isAccepted (r .answer) ≡ not t
+  accepts t e = flip (isAccepted (r .answer)) t (sym (refusal-negative (r .answer)) ∙ sym (ap (λ (j : ℤ). ltZ j (pos 0)) number) ∙ e)
+
+  pub refusal-leaves : ltZ i (pos 0) ≡ true → returned i l ≡ finished f r l
+  unfolding finished
+  refusal-leaves t = rw (number, accepts true t)
+
+  pub accepted-leaves : (a : image.ImageAnswer) (l′ : List ℕ) → ltZ i (pos 0) ≡ false → Finishes f r l → written a l′ ≡ writingOf f (r .state) l → returned i l′ ≡ finished f r l
+  unfolding finished
+  accepted-leaves a l′ t h w =
+      let bytes : l′ ≡ imageOf f (r .state) = ap (λ (y : Written). y .bytes) (w ∙ sym (done f (r .state) l (h .sized) true (sym (h .sound)) _ refl refl)) in
+      rw (number, bytes, accepts false t)
+
+-- ---- a new image
+
+module _ (f : Layout) (l : List ℕ) where
+  pub no-room : (length l ≡ imageSize f → ⊥) → returned (signedOf InvalidEntry) l ≡ newOver f l
+  unfolding newOver over
+  no-room h = rw (ne-eqb (length l) (imageSize f) h)
+
+  pub begins : f .records ≤ none → length l ≡ imageSize f → Finishes f (begun f) l
+  begins small h = record { sized = h; sound = stands (f .records) small empty (empty-sound (f .records)); below = lit< tt }
+
+  pub new-done : (x : Returned) → length l ≡ imageSize f → x ≡ finished f (begun f) l → x ≡ newOver f l
+  unfolding newOver over
+  new-done x h e = rw (eq-eqb (length l) (imageSize f) h) e
+
+-- ---- a call on what was read
+
+module _ (f : Layout) (c : Call) (l : List ℕ) (a : image.ImageAnswer) (s : MemoryAllocator) (read : handed a s ≡ readingOf f l) where
+  pub no-state : a ≡ image-answer.InvalidEntry → returned (signedOf InvalidEntry) l ≡ callOver f c l
+  unfolding callOver over
+  no-state e = rw (← read, e)
+
+  pub call-done : (r : Outcome) (x : Returned) → a ≡ image-answer.Done → r ≡ made (f .records) s c → x ≡ finished f r l → x ≡ callOver f c l
+  unfolding callOver over
+  call-done r x e er is = rw (← read, e, ← er) is
+
+  module _ (lawful : Lawful f) (bytes : Bytes l) (e : a ≡ image-answer.Done) where
+    small : f .records ≤ none
+    small = let h = lawful .records in let k = lawful .links in omega arith
+
+    -- what was read is sound, and the image has its length
+    sound-read : SoundState (f .records) s × (length l ≡ imageSize f)
+    sound-read =
+        let i = accepted-image f lawful l bytes (sym (ap (λ (h : Handed). h .number) read) ∙ ap writing.numberOf e) in
+        let same : s ≡ i .state = ap (λ (h : Handed). h .state) (read ∙ ap (readingOf f) (sym (i .bytes)) ∙ read-written f lawful (i .state) (i .sound)) in
+        (subst (SoundState (f .records)) (sym same) (i .sound), sym (ap length (i .bytes)) ∙ frame-back f lawful (i .state) (sound-fits (f .records) small (i .state) (i .sound)) .sized)
+
+    abbrev book : Book
+    book = bookOf (f .records) s
+
+    pub call-finishes : (r : Outcome) → r ≡ made (f .records) s c → Finishes f r l
+    call-finishes r er =
+        let h = sound-read .0 in
+        let n = f .records in
+        let es : s ≡ stateOf n book = sym (h .state) in
+        let eh : r ≡ held n (step n c book) = er ∙ ap (λ (t : MemoryAllocator). made n t c) es ∙ made-held n small book c (h .book) in
+        let ea : addressOf (r .answer) ≡ step n c book .address = ap (λ (o : Outcome). addressOf (o .answer)) (er ∙ ap (λ (t : MemoryAllocator). made n t c) es) ∙ ap (λ (v : _). v .address) (made-voucher n small book c (h .book)) in
+        let low = step-below n book c (h .book) in
+        record {
+          sized = sound-read .1;
+          sound = ap (λ (o : Outcome). isSound n (o .state)) eh ∙ stands n small (step n c book .book) (step-sound n book c (h .book));
+          below = rw ea low;
+        }

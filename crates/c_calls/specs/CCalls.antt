@@ -1,0 +1,79 @@
+-- What each C call returns, and every byte of the image that it leaves, for every image and all numbers. Assumes nothing.
+use Prim.Native.Nat.{ℕ, _<_}
+use mathlib.Core.Bool.{Bool, true, cond}
+use mathlib.Core.List.{List}
+use mathlib.Core.Path.{_≡_}
+use lib.Dec.{eqb}
+use lib.IntN.{ℤ, pos, negℤ}
+use lib.ListN.{length}
+use Rattle.rules.specs.Rules.{top, empty, Call, Free, Allocate, Reserve}
+use Rattle.state.specs.State.{stateOf}
+use Rattle.sound.specs.IsSound.{isSound}
+use Rattle.calls.specs.Answers.{numberOf, addressOf}
+use Rattle.calls.specs.declared.Answer.{Answer}
+use Rattle.calls.specs.declared.Answer.the-variants.{Accepted, InvalidEntry}
+use Rattle.memory_allocator.specs.Histories.{made}
+use Rattle.memory_allocator.specs.declared.Outcome.{Outcome}
+use Rattle.image_parts.specs.Layout.{Layout, imageSize}
+use Rattle.image.specs.Writing.{imageOf}
+use Rattle.image.specs.Reading.{readingOf}
+use Rattle.c_calls.specs.declared.request.Request.{Request}
+use Rattle.c_calls.specs.declared.request.Request.the-variants as asks
+
+-- what a call returns, and the image that it leaves
+pub record Returned : Type 0 where
+  pub number : ℤ
+  pub bytes : List ℕ
+
+abbrev pub returned : ℤ → List ℕ → Returned
+returned i l = record { number = i; bytes = l }
+
+-- the address, or minus the number of a refusal
+abbrev pub signed : ℕ → ℕ → ℤ
+signed k a = cond (eqb k 0) (pos a) (negℤ (pos k))
+
+abbrev pub signedOf : Answer → ℤ
+signedOf k = signed (numberOf k) (addressOf k)
+
+abbrev pub isAccepted : Answer → Bool
+isAccepted k = eqb (numberOf k) 0
+
+-- the image of the state that an accepted call leaves; a refusal changes no byte
+unfoldable pub finished : Layout → Outcome → List ℕ → Returned
+finished f r l = returned (signedOf (r .answer)) (cond (isAccepted (r .answer)) (imageOf f (r .state)) l)
+
+-- InvalidEntry, unless the image serves
+unfoldable pub over : Layout → Bool → Outcome → List ℕ → Returned
+over f serves r l = cond serves (finished f r l) (returned (signedOf InvalidEntry) l)
+
+-- a call on the state whose image this is; an image of another length, or of no sound state, does not serve
+unfoldable pub callOver : Layout → Call → List ℕ → Returned
+callOver f c l = over f (eqb (readingOf f l .number) 0) (made (f .records) (readingOf f l .state) c) l
+
+abbrev pub allocateOver : Layout → ℕ → ℕ → List ℕ → Returned
+allocateOver f z o l = callOver f (Allocate z o) l
+
+abbrev pub reserveOver : Layout → ℕ → ℕ → ℕ → List ℕ → Returned
+reserveOver f a z o l = callOver f (Reserve a z o) l
+
+abbrev pub freeOver : Layout → ℕ → ℕ → List ℕ → Returned
+freeOver f a z l = callOver f (Free a z) l
+
+-- whatever is there serves, if it has the length
+abbrev pub begun : Layout → Outcome
+begun f = record { answer = Accepted (record { 0 = 0 }); state = stateOf (f .records) empty }
+
+unfoldable pub newOver : Layout → List ℕ → Returned
+newOver f l = over f (eqb (length l) (imageSize f)) (begun f) l
+
+-- the outcome can be answered by one signed number, and its state written over the bytes
+pub record Finishes (f : Layout) (r : Outcome) (l : List ℕ) : Type 0 where
+  pub sized : length l ≡ imageSize f
+  pub sound : isSound (f .records) (r .state) ≡ true
+  pub below : addressOf (r .answer) < top
+
+-- the call that a request stands for
+abbrev pub callOf : Request → Call
+callOf (asks.Allocate z o) = Allocate z o
+callOf (asks.Reserve a z o) = Reserve (a .0) z o
+callOf (asks.Free a z) = Free (a .0) z

@@ -1,0 +1,60 @@
+// The calls as C has them: over a lent image, with one signed number as the answer.
+use calls::Answer;
+use finish::INVALID_ENTRY;
+use finish::finish_call;
+use image_parts::layout::IMAGE;
+use memory_allocator::Outcome;
+use memory_allocator::new;
+use request::Request;
+use request::call_over;
+use state::Address;
+ghost use mathlib.Core.Path.{_≡_};
+ghost use Rattle.image_parts.specs.Layout.{current};
+ghost use Rattle.c_calls.specs.CCalls.{returned, newOver, allocateOver, reserveOver, freeOver};
+
+mod finish;
+mod request;
+
+// The image of the empty allocator, over whatever is there.
+#[no_mangle]
+pub extern "C" fn cinghjalofa_new(image: &mut [u8]) -> i64
+    ensures { λ r. ⌜ returned r (now (image .exit)) ≡ newOver current (now (image .entry)) ⌝ }
+{
+    if image.len() != IMAGE {
+        return INVALID_ENTRY;
+    }
+    let outcome = Outcome {
+        answer: Answer::Accepted(Address(0)),
+        state: new(),
+    };
+    finish_call(outcome, image)
+}
+
+// `size` bytes from a multiple of 2^order; the answer is the address of the first.
+#[no_mangle]
+pub extern "C" fn cinghjalofa_allocate(image: &mut [u8], size: u64, order: u64) -> i64
+    ensures { λ r. ⌜ returned r (now (image .exit)) ≡ allocateOver current size order (now (image .entry)) ⌝ }
+{
+    call_over(image, Request::Allocate(size, order))
+}
+
+// The bytes from `start`, widened to multiples of 2^order, are taken.
+#[no_mangle]
+pub extern "C" fn cinghjalofa_reserve_memory(
+    image: &mut [u8],
+    start: u64,
+    size: u64,
+    order: u64,
+) -> i64
+    ensures { λ r. ⌜ returned r (now (image .exit)) ≡ reserveOver current start size order (now (image .entry)) ⌝ }
+{
+    call_over(image, Request::Reserve(Address(start), size, order))
+}
+
+// `size` bytes from `start` become free.
+#[no_mangle]
+pub extern "C" fn cinghjalofa_free(image: &mut [u8], start: u64, size: u64) -> i64
+    ensures { λ r. ⌜ returned r (now (image .exit)) ≡ freeOver current start size (now (image .entry)) ⌝ }
+{
+    call_over(image, Request::Free(Address(start), size))
+}
