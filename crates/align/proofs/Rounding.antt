@@ -1,10 +1,10 @@
 -- Rounding by shifts. Assumes nothing.
 use Prim.Native.Nat.{ℕ, _+_, _-_, _*_, _/_, _%_, _^_, _<_, _≤_}
-use mathlib.Core.Path.{_≡_, refl, sym, ap, _∙_, subst}
+use mathlib.Core.Path.{_≡_, _∙_}
 use lib.Dec.{lit≤}
 use native.Mathlib.Omega.{arith}
 use native.Mathlib.Nat.{mod-eq-of-lt, pow-le-pow-right, div-mul-le-self}
-use Rattle.rules.specs.Rules.{top, down, up}
+use Rattle.rules.specs.Rules.{down, up}
 
 -- ---- rounding
 

@@ -1,10 +1,10 @@
 -- Every address that a call answers is below 2^63. Assumes nothing.
 use Prim.Native.Nat.{ℕ, _+_, _<_}
-use mathlib.Core.Bool.{Bool, not}
+use mathlib.Core.Bool.{Bool}
 use mathlib.Core.Option.{Option, none, some}
-use lib.Dec.{T, lit<}
+use lib.Dec.{lit<}
 use native.Mathlib.Omega.{arith}
-use Rattle.rules.specs.Rules.{top, Range, Book, down, up, contains, find, Answer, refuse, reserve, reserveFrom, Call, Free, Allocate, Reserve, step, frees}
+use Rattle.rules.specs.Rules.{top, Range, Book, down, up, Answer, refuse, reserve, reserveFrom, Call, Free, Allocate, Reserve, step}
 use Rattle.rules.specs.Sound.{Sound}
 use Rattle.laws.proofs.Lists.{if}
 use Rattle.laws.proofs.Outcomes.{Outcome, refusal, took, gave, outcome}

@@ -10,12 +10,11 @@ use lib.Signed.{ltZ}
 use lib.ListN.{length}
 use borrow.Author.Tests.{eq-eqb, ne-eqb, le-ltb}
 use Rattle.lists.specs.Links.{none}
-use Rattle.rules.specs.Rules.{top, Book, empty, Call, step}
+use Rattle.rules.specs.Rules.{Book, empty, Call, step}
 use Rattle.laws.proofs.Kept.{empty-sound}
 use Rattle.laws.proofs.History.{step-sound}
 use Rattle.state.specs.State.{stateOf}
 use Rattle.state.specs.Sound.{bookOf, SoundState}
-use Rattle.state.specs.declared.Address.{Address}
 use Rattle.state.specs.declared.MemoryAllocator.{MemoryAllocator}
 use Rattle.sound.specs.IsSound.{isSound}
 use Rattle.calls.specs.Answers.{addressOf}

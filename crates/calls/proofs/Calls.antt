@@ -1,32 +1,31 @@
 -- The calls, line by line. Assumes nothing.
-use Prim.Native.Nat.{ℕ, zero, suc, _+_, _-_, _<_, _≤_}
+use Prim.Native.Nat.{ℕ, suc, _+_, _-_, _<_, _≤_}
 use mathlib.Core.Bool.{Bool, true, false, not, cond, _&&_}
-use mathlib.Core.Logic.{_≢_, _⊎_, inl, inr, ⊎-elim}
-use mathlib.Core.List.{List, [], _∷_}
+use mathlib.Core.Logic.{_≢_}
+use mathlib.Core.List.{List, []}
 use mathlib.Core.Option.{Option, none, some}
 use mathlib.Core.Path.{_≡_, refl, sym, ap, _∙_, subst}
 use lib.ListN.{length, getD}
-use lib.Dec.{T, leb, ltb, eqb, leb→le, eqb→eq}
+use lib.Dec.{T, leb, eqb, leb→le}
 use native.Mathlib.Omega.{arith}
 use borrow.Author.Tests.{eq-eqb, ne-eqb, lt-ltb, le-ltb, le-leb, lt-leb}
-use Rattle.rules.specs.Rules.{top, Range, startOf, Book, Answer, accepted, refused, refuse, allocate, allocateFrom, reserve, reserveFrom, free, total, taken, given, lower, upper, alone, full, any, meets, whole, splits, contains, up, down, fits, find}
+use Rattle.rules.specs.Rules.{top, Range, startOf, Book, Answer, accepted, refused, refuse, allocate, allocateFrom, reserve, reserveFrom, free, total, taken, given, any, meets, whole, contains, up, down, fits, find}
 use Rattle.rules.specs.Sound.{In}
-use Rattle.laws.proofs.Lists.{Found, found, and-l, and-r, T-false, T-no}
-use Rattle.laws.proofs.Outcomes.{le-up, down-le, clear}
+use Rattle.laws.proofs.Lists.{Found, found, and-l, and-r}
+use Rattle.laws.proofs.Outcomes.{le-up, clear}
 use Rattle.laws.proofs.Facts.{up-plain, down-plain}
 use Rattle.state.specs.Shown.{at, Gapped}
 use Rattle.state.specs.State.{Holds}
 use Rattle.chain.specs.Chain.{Ordered, Placed, Chosen}
 use Rattle.give.specs.Give.{Offers, wants}
 use Rattle.state.specs.declared.RecordIndex.{RecordIndex}
-use Rattle.state.specs.declared.Address.{Address}
 use Rattle.state.specs.declared.MemoryAllocator.{MemoryAllocator}
 use Rattle.links.specs.Hits.{hitOf}
 use Rattle.links.specs.declared.Hit.the-variants.{At, Nothing}
 use Rattle.entries.specs.Entries.{movingOf, Leaves}
 use Rattle.entries.specs.declared.Moving.{Moving}
 use Rattle.entries.specs.declared.Moving.the-variants.{Done, NoRecord}
-use Rattle.take.specs.Take.{Asks, refuses, Takes}
+use Rattle.take.specs.Take.{Asks, refuses}
 use Rattle.calls.specs.Answers.{Answers, numberOf, addressOf}
 use Rattle.calls.specs.declared.Answer.the-variants.{Accepted, NoEntry}
 use Rattle.calls.specs.declared.Answer as answer

@@ -1,23 +1,19 @@
 -- What a record that goes out of the chain or into it does to what the arrays show. Assumes nothing.
-use Prim.Native.Nat.{ℕ, zero, suc, _+_, _-_, _<_, _≤_}
-use mathlib.Core.Bool.{Bool, true, false, cond}
-use mathlib.Core.Logic.{_≢_, _⊎_, inl, inr, ⊎-elim}
+use Prim.Native.Nat.{ℕ, _+_, _-_, _≤_}
+use mathlib.Core.Bool.{true}
+use mathlib.Core.Logic.{_≢_, _⊎_, ⊎-elim}
 use mathlib.Core.List.{List, [], _∷_, _++_}
-use mathlib.Core.Path.{_≡_, refl, sym, ap, _∙_, subst}
-use lib.ListN.{length, getD, set, length-set}
-use lib.Dec.{eqb, eqb→eq, eqb-refl, T}
-use native.Mathlib.Omega.{arith}
-use native.Mathlib.Numerals.{add-one}
+use mathlib.Core.Path.{_≡_, sym, ap, _∙_}
+use lib.ListN.{getD}
+use lib.Dec.{eqb}
 use borrow.Author.Tests.{eq-eqb, ne-eqb}
-use Rattle.lists.specs.Links.{pick, upd, none, head, lastFrom, after, Fresh, Listed, has}
+use Rattle.lists.specs.Links.{pick, upd, none, head, after, has}
 use Rattle.lists.specs.Links as links
 use Rattle.lists.specs.Threads.{Threads, alone, only, cut, Between}
-use Rattle.lists.proofs.Laws.{same?, head-without, head-put, listed-left, listed-widen, parted, listed-right}
+use Rattle.lists.proofs.Laws.{same?, head-without, head-put, listed-left, listed-widen}
 use Rattle.lists.proofs.Threading.{same-lists, has-below}
-use Rattle.rules.specs.Rules.{Range, range, without, any, lowest}
-use Rattle.rules.specs.Sound.{In}
-use Rattle.laws.proofs.Lists.{if, any→, neq, any←, T-true, T-false, T-or-not, T-no}
-use Rattle.state.specs.Shown.{numbers, Chained, Marked}
+use Rattle.rules.specs.Rules.{Range, without}
+use Rattle.state.specs.Shown.{numbers, Chained}
 use Rattle.chain.specs.Chain.{Enters}
 use Rattle.state.proofs.Walks.{numbers-append, fresh-numbers, numbers-without}
 

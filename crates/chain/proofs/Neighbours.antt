@@ -1,11 +1,9 @@
 -- The ranges on either side of a place in the chain. Assumes nothing.
 use Prim.Native.Nat.{ℕ, suc, _+_, _<_, _≤_}
-use mathlib.Core.Bool.{Bool, true, false}
 use mathlib.Core.Logic.{_≢_, _⊎_, inl, inr}
 use mathlib.Core.List.{List, [], _∷_, _++_}
-use mathlib.Core.Option.{Option, none, some}
+use mathlib.Core.Option.{none, some}
 use mathlib.Core.Path.{_≡_, refl, sym, ap, _∙_, subst}
-use lib.Seq.{append-snoc}
 use lib.Dec.{T, leb, leb→le, le→leb}
 use native.Mathlib.Omega.{arith}
 use Rattle.lists.specs.Links as links

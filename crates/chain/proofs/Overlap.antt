@@ -1,5 +1,5 @@
 -- Whether a piece overlaps a range of the chain, from the ranges on either side of its place. Assumes nothing.
-use Prim.Native.Nat.{ℕ, suc, _<_, _≤_}
+use Prim.Native.Nat.{ℕ, _<_, _≤_}
 use mathlib.Core.Bool.{Bool, true, false, _&&_}
 use mathlib.Core.Logic.{_≢_, _⊎_, inl, inr, ⊎-elim}
 use mathlib.Core.List.{List}
@@ -9,9 +9,9 @@ use lib.Dec.{T, leb, ltb, leb→le, ltb→lt, le→leb, lt→ltb}
 use native.Mathlib.Omega.{arith}
 use borrow.Author.Tests.{lt-ltb, le-ltb}
 use Rattle.lists.specs.Links as links
-use Rattle.lists.proofs.Laws.{same?, true≢false, below?}
+use Rattle.lists.proofs.Laws.{same?, true≢false}
 use Rattle.rules.specs.Rules.{Range, any, meets}
-use Rattle.rules.specs.Sound.{In, Ahead, Good}
+use Rattle.rules.specs.Sound.{In}
 use Rattle.laws.proofs.Lists.{and-l, and-r, and-i, same-test, any→, any←, T-true}
 use Rattle.state.specs.Shown.{at}
 use Rattle.chain.specs.Chain.{Placed}

@@ -1,19 +1,17 @@
 -- Whether a range is the only one, from the first record and its link. Assumes nothing.
-use Prim.Native.Nat.{ℕ, zero, suc, _+_, _-_, _<_, _≤_}
-use mathlib.Core.Bool.{Bool, true, false, _&&_}
-use mathlib.Core.Logic.{_≢_, _⊎_, inl, inr}
+use Prim.Native.Nat.{ℕ, suc, _-_, _<_, _≤_}
+use mathlib.Core.Bool.{true, false, _&&_}
+use mathlib.Core.Logic.{_≢_, inl, inr}
 use mathlib.Core.List.{List, [], _∷_}
-use mathlib.Core.Path.{_≡_, refl, sym, ap, _∙_, subst}
+use mathlib.Core.Path.{_≡_, refl, sym, ap, _∙_}
 use lib.ListN.{length, getD}
 use lib.Dec.{eqb}
 use native.Mathlib.Omega.{arith}
 use borrow.Author.Tests.{eq-eqb, ne-eqb}
 use Rattle.lists.specs.Links as links
-use Rattle.lists.proofs.Laws.{same?}
 use Rattle.rules.specs.Rules.{Range, whole}
 use Rattle.rules.specs.Sound.{In}
 use Rattle.state.specs.Shown.{numbers, at}
-use Rattle.state.proofs.Walks.{in-fresh}
 use Rattle.chain.specs.Chain.{Chosen}
 
 module _ (n : ℕ) (small : n ≤ links.none) (c : List Range) (start end next : List ℕ) (first i : ℕ) (r : Range) (k : Chosen n c start end next first i r) where

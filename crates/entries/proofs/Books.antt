@@ -1,28 +1,26 @@
 -- Steps of a book, and what the arrays show after each.
-use Prim.Native.Nat.{ℕ, zero, suc, _+_, _-_, _<_, _≤_}
-use mathlib.Core.Bool.{Bool, true, false, cond}
+use Prim.Native.Nat.{ℕ, _+_, _-_, _<_, _≤_}
+use mathlib.Core.Bool.{Bool, true, false}
 use mathlib.Core.Logic.{_≢_, _⊎_, inl, inr, ⊎-elim}
 use mathlib.Core.List.{List, [], _∷_, _++_}
 use mathlib.Core.Path.{_≡_, refl, sym, ap, _∙_, subst}
-use lib.ListN.{length, getD, set, length-set}
-use lib.Seq.{getD-set-same, getD-set-other, append-snoc}
-use lib.Dec.{eqb, leb, eqb→eq, T}
+use lib.ListN.{set, length-set}
+use lib.Seq.{getD-set-same, getD-set-other}
+use lib.Dec.{leb}
 use native.Mathlib.Omega.{arith}
-use native.Mathlib.Nat.{add-assoc, add-comm}
 use borrow.Author.Tests.{eq-eqb, ne-eqb}
-use Rattle.lists.specs.Links.{none, head, lastFrom, after, has, Listed}
-use Rattle.lists.specs.Threads.{Threads, alone, only}
-use Rattle.lists.proofs.Laws.{same?, after-mid, last-snoc}
+use Rattle.lists.specs.Links.{none, head, has}
+use Rattle.lists.proofs.Laws.{same?}
 use Rattle.rules.specs.Rules.{Range, range, startOf, size, Book, sum, total, before, without, put, remove}
 use Rattle.rules.specs.Sound.{In, Pairwise}
 use Rattle.laws.proofs.Lists.{if, in-before→, in-before←, in-without→, in-without←}
-use Rattle.rules.specs.Sound.{Sound, Good, Smaller, Other, Ahead, Apart}
-use Rattle.laws.proofs.Kept.{put-sound, remove-sound, in-put→, in-put←, in-remove→, in-remove←, others-apart, same-number}
-use Rattle.state.specs.Shown.{numbers, at, Stand, Stops, Walked, Gapped, Shelved, Chained, Marked, Kept, Shape}
+use Rattle.rules.specs.Sound.{Sound, Other, Ahead}
+use Rattle.laws.proofs.Kept.{put-sound, remove-sound, in-remove→, others-apart}
+use Rattle.state.specs.Shown.{numbers, at, Stops, Shelved, Chained, Marked, Shape}
 use Rattle.shelf.specs.Shelf.{Removes, Places, Resizes}
 use Rattle.chain.specs.Chain.{Enters}
 use Rattle.entries.specs.Entries.{Replaces, Inserts, Drops}
-use Rattle.state.proofs.Walks.{numbers-append, in-left, in-right, in-either, in-has, has-in, without-fresh, fresh-numbers, before-at}
+use Rattle.state.proofs.Walks.{numbers-append, in-left, in-right, in-has, has-in, without-fresh, fresh-numbers, before-at}
 use Rattle.shelf.proofs.Shelf.{range-at, range-other, reslot}
 
 -- ---- a member parts a list

@@ -1,17 +1,16 @@
 -- The lowest unused record, from the marks of the records in use. Assumes nothing.
 use Prim.Native.Nat.{ℕ, zero, suc, _+_, _-_, _<_, _≤_}
-use mathlib.Core.Bool.{Bool, true, false, cond}
-use mathlib.Core.Logic.{_≢_, _⊎_, inl, inr, ⊎-elim}
-use mathlib.Core.List.{List, [], _∷_, _++_}
+use mathlib.Core.Bool.{Bool, true, false}
+use mathlib.Core.Logic.{_⊎_, inl, inr, ⊎-elim}
+use mathlib.Core.List.{List, []}
 use mathlib.Core.Path.{_≡_, refl, sym, ap, _∙_, subst}
-use lib.ListN.{length, getD, set, length-set}
+use lib.ListN.{getD}
 use lib.Dec.{eqb, eqb→eq, eqb-refl, T}
 use native.Mathlib.Omega.{arith}
 use native.Mathlib.Numerals.{add-one}
 use borrow.Author.Tests.{lt-ltb, le-ltb}
 use Rattle.rules.specs.Rules.{Range, Book, any, lowest, unused}
-use Rattle.rules.specs.Sound.{In}
-use Rattle.laws.proofs.Lists.{if, any→, neq, any←, T-true, T-false, T-or-not, T-no}
+use Rattle.laws.proofs.Lists.{any→, any←, T-true, T-false, T-or-not, T-no}
 use Rattle.state.specs.Shown.{Marked}
 use Rattle.state.specs.declared.RecordIndex.{RecordIndex}
 use Rattle.lists.proofs.Laws.{below?}

@@ -1,24 +1,23 @@
 -- Giving: which ranges the piece touches, and what each case leaves. Assumes nothing.
-use Prim.Native.Nat.{ℕ, zero, suc, _+_, _-_, _^_, _<_, _≤_}
+use Prim.Native.Nat.{ℕ, suc, _+_, _-_, _<_, _≤_}
 use mathlib.Core.Bool.{Bool, true, false, cond, _&&_}
 use mathlib.Core.Logic.{_≢_, _⊎_, inl, inr, ⊎-elim}
 use mathlib.Core.List.{List, [], _∷_, _++_}
-use mathlib.Core.Option.{Option, none, some}
+use mathlib.Core.Option.{none, some}
 use mathlib.Core.Path.{_≡_, refl, sym, ap, _∙_, subst}
-use lib.ListN.{length, getD, set}
-use lib.Dec.{T, eqb, ltb, leb, eqb→eq, eqb-refl}
+use lib.ListN.{getD}
+use lib.Dec.{T, eqb, ltb, eqb→eq, eqb-refl}
 use native.Mathlib.Omega.{arith}
-use borrow.Author.Tests.{eq-eqb, ne-eqb, lt-ltb, le-ltb, le-leb, lt-leb, eqb-false}
+use borrow.Author.Tests.{eq-eqb, ne-eqb, lt-ltb, le-ltb, le-leb, lt-leb}
 use Rattle.lists.specs.Links as links
 use Rattle.lists.proofs.Laws.{same?, true≢false, below?}
-use Rattle.rules.specs.Rules.{top, Range, range, startOf, size, Book, sum, total, before, without, put, remove, lower, upper, alone, joined, given, unused, full, find}
-use Rattle.rules.specs.Sound.{In, Pairwise, Sound, Good, Ahead, Apart, Other}
+use Rattle.rules.specs.Rules.{top, Range, range, size, Book, sum, total, without, put, remove, lower, upper, alone, joined, given, unused, full}
+use Rattle.rules.specs.Sound.{In, Pairwise, Good, Ahead, Other}
 use Rattle.laws.proofs.Lists.{find-one, find-none, compared}
 use Rattle.laws.proofs.Kept.{others-apart, unused-other, same-number, remove-sound, in-remove→, in-remove←}
-use Rattle.state.specs.Shown.{at, Gapped, Shelved, Shape}
-use Rattle.state.specs.State.{arrays, Holds}
-use Rattle.shelf.specs.Shelf.{Removes, Resizes}
-use Rattle.entries.specs.Entries.{Replaces, Inserts, Drops, movingOf, Leaves}
+use Rattle.state.specs.Shown.{at, Shape}
+use Rattle.state.specs.State.{arrays}
+use Rattle.entries.specs.Entries.{Replaces, Inserts, Drops}
 use Rattle.entries.specs.declared.Moving.the-variants.{Done, NoRecord}
 use Rattle.entries.proofs.Books.{total-put, total-remove}
 use Rattle.entries.proofs.Moves.{done, refused}

@@ -1,17 +1,16 @@
 -- What the free bytes alone settle: the total and the ranges. And handing back what was taken. Assumes nothing.
-use mathlib.Core.Path.{_≡_, refl, sym, _∙_, ap, ap₂, subst}
-use mathlib.Core.Logic.{_≢_, _⊎_, inl, inr, _↔_}
-use mathlib.Core.Bool.{Bool, true, false, not, cond, _&&_, _||_}
+use mathlib.Core.Path.{_≡_, refl, sym, ap, subst}
+use mathlib.Core.Logic.{_⊎_, inl, inr}
+use mathlib.Core.Bool.{Bool, true, false, cond, _||_}
 use mathlib.Core.List.{List, [], _∷_, map}
-use mathlib.Core.Option.{Option, none, some}
 use Prim.Native.Nat.{ℕ, zero, suc, _+_, _-_, min, _≤_, _<_}
 use native.Mathlib.Omega.{arith}
-use lib.Dec.{T, leb, ltb, eqb, leb→le, nleb→lt, le→leb, lt→ltb, ltb→lt, nltb→le, eqb→eq, eqb-refl, not-T}
-use Rattle.rules.specs.Rules.{top, Range, size, Book, empty, sum, total, span, listing, any, holds, freeAt, Call, step, run, count}
+use lib.Dec.{T, leb, leb→le, nleb→lt}
+use Rattle.rules.specs.Rules.{top, Range, Book, sum, total, span, listing, any, holds, freeAt, count}
 use Rattle.rules.specs.Sound.{In, Pairwise}
-use Rattle.laws.proofs.Lists.{if, and-l, and-r, and-i, T-no, T-or-not, T-true, T-false, same-test, any→, any←}
+use Rattle.laws.proofs.Lists.{if, and-l, and-r, and-i, T-no, T-or-not, any→}
 use Rattle.rules.specs.Sound.{Ahead, Sound}
-use Rattle.laws.proofs.Kept.{empty-sound, free→, free←}
+use Rattle.laws.proofs.Kept.{free→, free←}
 
 -- ---- the total
 

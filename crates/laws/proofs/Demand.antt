@@ -4,7 +4,7 @@ use mathlib.Core.Bool.{Bool, false, not}
 use mathlib.Core.List.{List, map}
 use Prim.Native.Nat.{ℕ}
 use lib.Dec.{T}
-use Rattle.rules.specs.Rules.{top, sizeLists, Range, size, Book, empty, total, span, listing, any, freeAt, Call, Answer, step, run, voucher, trail, frees, covers, lastCovering, said, count, back, tally, lists}
+use Rattle.rules.specs.Rules.{top, sizeLists, size, Book, empty, total, span, listing, any, freeAt, Call, Answer, step, run, voucher, trail, frees, covers, lastCovering, said, count, back, tally, lists}
 use Rattle.rules.specs.Sound.{Sound}
 use Rattle.laws.proofs.Kept.{empty-sound}
 use Rattle.laws.proofs.History.{step-sound, run-sound, run-free, step-covers}

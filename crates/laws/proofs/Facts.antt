@@ -1,16 +1,16 @@
 -- The document's words on list numbers, rounding, the widened reserve and used records, as facts of the definitions. Assumes nothing.
 use mathlib.Core.Path.{_≡_, refl, sym, _∙_, ap, subst}
-use mathlib.Core.Logic.{_≢_, _⊎_, inl, inr, _↔_}
-use mathlib.Core.Bool.{Bool, true, false, not, cond, _&&_, _||_}
-use mathlib.Core.List.{List, [], _∷_, map}
-use Prim.Native.Nat.{ℕ, zero, suc, _+_, _-_, _*_, _/_, _%_, _^_, _≤_, _<_}
+use mathlib.Core.Logic.{_≢_, inl, inr, _↔_}
+use mathlib.Core.Bool.{Bool}
+use mathlib.Core.List.{[], _∷_, map}
+use Prim.Native.Nat.{ℕ, zero, suc, _+_, _-_, _*_, _/_, _^_, _≤_, _<_}
 use native.Mathlib.Omega.{arith}
 use native.Mathlib.Nat.{div-add-mod', mod-lt, div-lt-iff-lt-mul, mul-le-mul-right, pow-le-pow-right}
 use lib.Pow.{pow-pos, pow-add}
-use lib.Dec.{T, leb, ltb, eqb, leb→le, nleb→lt, le→leb, lt→ltb, ltb→lt, nltb→le, eqb→eq, eqb-refl, lit≤}
-use Rattle.rules.specs.Rules.{top, sizeLists, Range, Book, total, any, find, least, listNumber, down, up, lowest, unused, full, contains, Answer, refuse, refused, reserveFrom, reserve}
+use lib.Dec.{T, leb, ltb, eqb, leb→le, nleb→lt, ltb→lt, nltb→le, eqb→eq, eqb-refl, lit≤}
+use Rattle.rules.specs.Rules.{top, sizeLists, Range, Book, total, any, find, least, listNumber, down, up, unused, full, contains, Answer, refuse, refused, reserveFrom, reserve}
 use Rattle.rules.specs.Sound.{In}
-use Rattle.laws.proofs.Lists.{if, T-no, T-or-not, T-true, T-false, neq, any→, any←, named, lowest-least}
+use Rattle.laws.proofs.Lists.{if, T-no, T-or-not, T-true, neq, any→, any←, named, lowest-least}
 use Rattle.laws.proofs.Outcomes.{down-le, le-up}
 use Rattle.laws.proofs.HandBack.{pass}
 

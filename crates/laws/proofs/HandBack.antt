@@ -1,18 +1,17 @@
 -- Handing back what was taken. Assumes nothing.
 use mathlib.Core.Path.{_≡_, refl, sym, _∙_, ap, subst}
-use mathlib.Core.Logic.{_≢_, _⊎_, inl, inr, _↔_}
-use mathlib.Core.Bool.{Bool, true, false, not, cond, _&&_, _||_}
-use mathlib.Core.List.{List, [], _∷_, map}
-use mathlib.Core.Option.{Option, none, some}
-use Prim.Native.Nat.{ℕ, zero, suc, _+_, _-_, _≤_, _<_}
+use mathlib.Core.Logic.{_⊎_, inl, inr}
+use mathlib.Core.Bool.{Bool, not, _&&_}
+use mathlib.Core.List.{[]}
+use mathlib.Core.Option.{Option, none}
+use Prim.Native.Nat.{ℕ, suc, _+_, _-_, _≤_, _<_}
 use native.Mathlib.Omega.{arith}
-use lib.Dec.{T, leb, ltb, eqb, leb→le, nleb→lt, le→leb, lt→ltb, ltb→lt, nltb→le, eqb→eq, eqb-refl, not-T}
-use lib.Arith.{le→nltb}
-use Rattle.rules.specs.Rules.{top, Range, Book, empty, listing, any, meets, freeAt, unused, full, taken, given, lower, upper, alone, Answer, accepted, refused, refuse, free, Call, Free, Allocate, Reserve, step, run, frees, from, past, back}
+use lib.Dec.{T, leb, ltb, eqb, leb→le, nleb→lt, ltb→lt, nltb→le, eqb→eq, eqb-refl}
+use Rattle.rules.specs.Rules.{top, Range, Book, listing, any, meets, freeAt, unused, full, taken, given, lower, upper, alone, Answer, accepted, refuse, free, Call, step, frees, from, past, back}
 use Rattle.rules.specs.Sound.{In}
-use Rattle.laws.proofs.Lists.{if, and-l, and-r, and-i, T-no, T-or-not, T-true, T-false, same-test, any→, Found, found, lowest-least}
+use Rattle.laws.proofs.Lists.{if, and-l, and-r, T-no, T-or-not, same-test, any→, Found, found, lowest-least}
 use Rattle.rules.specs.Sound.{Sound}
-use Rattle.laws.proofs.Kept.{empty-sound, Takes, Gives, taken-sound, taken-free→, taken-free←, taken-whole, given-sound, given-free→, given-free←, free→, free←}
+use Rattle.laws.proofs.Kept.{Takes, Gives, taken-sound, taken-free→, taken-free←, taken-whole, given-sound, given-free→, given-free←, free→, free←}
 use Rattle.laws.proofs.Outcomes.{Outcome, refusal, took, gave, outcome}
 use Rattle.laws.proofs.Bytes.{sound-same}
 

@@ -1,17 +1,16 @@
 -- Demand 3, over any list of calls. Assumes nothing.
-use mathlib.Core.Path.{_≡_, refl, sym, _∙_, ap, subst}
-use mathlib.Core.Logic.{_≢_, _⊎_, inl, inr, _↔_}
-use mathlib.Core.Bool.{Bool, true, false, not, cond, _&&_, _||_}
-use mathlib.Core.List.{List, [], _∷_, map}
+use mathlib.Core.Path.{_≡_, refl, sym, _∙_, ap}
+use mathlib.Core.Logic.{_⊎_, inl, inr}
+use mathlib.Core.Bool.{Bool, false, not, cond, _&&_}
+use mathlib.Core.List.{List, [], _∷_}
 use mathlib.Core.Option.{Option, none, some}
-use Prim.Native.Nat.{ℕ, zero, suc, _+_, _-_, _≤_, _<_}
+use Prim.Native.Nat.{ℕ, _-_, _≤_, _<_}
 use native.Mathlib.Omega.{arith}
-use lib.Dec.{T, leb, ltb, eqb, leb→le, nleb→lt, le→leb, lt→ltb, ltb→lt, nltb→le, eqb→eq, eqb-refl, not-T}
-use Rattle.rules.specs.Rules.{top, Range, Book, empty, any, freeAt, taken, given, Answer, accepted, refused, Call, Free, Allocate, Reserve, step, run, Voucher, voucher, trail, frees, from, past, covers, lastCovering, said}
-use Rattle.rules.specs.Sound.{In}
+use lib.Dec.{T, leb, ltb, eqb, leb→le, nleb→lt, le→leb, lt→ltb, ltb→lt, nltb→le, eqb→eq, not-T}
+use Rattle.rules.specs.Rules.{Book, freeAt, taken, given, Answer, refused, Call, step, run, Voucher, voucher, trail, frees, from, past, covers, lastCovering, said}
 use Rattle.laws.proofs.Lists.{if, and-l, and-r, and-i, T-no, T-or-not, T-true, T-false, same-test}
 use Rattle.rules.specs.Sound.{Sound}
-use Rattle.laws.proofs.Kept.{empty-sound, Takes, Gives, taken-sound, taken-free→, taken-free←, given-sound, given-free→, given-free←, free→, free←}
+use Rattle.laws.proofs.Kept.{taken-sound, taken-free→, taken-free←, given-sound, given-free→, given-free←, free→, free←}
 use Rattle.laws.proofs.Outcomes.{Outcome, refusal, took, gave, outcome}
 
 -- ---- one call

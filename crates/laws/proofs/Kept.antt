@@ -1,15 +1,15 @@
 -- Taking and giving keep a book sound; which bytes are free afterwards. Assumes nothing.
-use mathlib.Core.Path.{_≡_, refl, sym, _∙_, ap, subst}
-use mathlib.Core.Logic.{_≢_, _⊎_, inl, inr, _↔_}
-use mathlib.Core.Bool.{Bool, true, false, not, cond, _&&_, _||_}
-use mathlib.Core.List.{List, [], _∷_}
+use mathlib.Core.Path.{_≡_, refl, sym, ap, subst}
+use mathlib.Core.Logic.{_≢_, _⊎_, inl, inr}
+use mathlib.Core.Bool.{Bool, true, false, cond}
+use mathlib.Core.List.{[]}
 use mathlib.Core.Option.{Option, none, some}
-use Prim.Native.Nat.{ℕ, zero, suc, _+_, _-_, _≤_, _<_}
+use Prim.Native.Nat.{ℕ, suc, _-_, _≤_, _<_}
 use native.Mathlib.Omega.{arith}
-use lib.Dec.{T, leb, ltb, eqb, leb→le, nleb→lt, le→leb, lt→ltb, ltb→lt, nltb→le, eqb→eq, eqb-refl}
-use Rattle.rules.specs.Rules.{top, Range, range, startOf, size, Book, empty, before, without, put, remove, any, find, lowest, unused, full, holds, freeAt, meets, splits, putIf, taken, lower, upper, joined, given, alone}
+use lib.Dec.{T, leb, ltb, eqb, leb→le, le→leb, lt→ltb, ltb→lt, nltb→le, eqb→eq}
+use Rattle.rules.specs.Rules.{top, Range, range, startOf, size, Book, empty, put, remove, unused, holds, freeAt, splits, putIf, taken, lower, upper, joined, given, alone}
 use Rattle.rules.specs.Sound.{In, Pairwise, Ahead, Apart, Other, Smaller, Good, Sound}
-use Rattle.laws.proofs.Lists.{if, and-l, and-r, and-i, T-no, T-or-not, neq, weaker, compared, in-before→, in-before←, pairwise-before, in-without→, in-without←, pairwise-without, any→, any←, Found, found, lowest-unused, lowest-least}
+use Rattle.laws.proofs.Lists.{if, and-l, and-r, and-i, T-no, T-or-not, neq, weaker, compared, in-before→, in-before←, pairwise-before, in-without→, in-without←, pairwise-without, any→, any←, Found, found, lowest-unused}
 
 pub empty-sound : (n : ℕ) → Sound n empty
 empty-sound n = record { good = λ r i. absurd i; apart = tt; once = tt; sizes = tt; once-shelf = tt; same = λ r. (λ i. i, λ i. i) }

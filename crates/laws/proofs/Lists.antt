@@ -1,12 +1,12 @@
 -- Members, orders and tests of the lists of the rules. Assumes nothing.
 use mathlib.Core.Path.{_≡_, refl, sym, _∙_, ap, subst}
-use mathlib.Core.Logic.{_≢_, _⊎_, inl, inr, _↔_}
+use mathlib.Core.Logic.{_≢_, _⊎_, inl, inr}
 use mathlib.Core.Bool.{Bool, true, false, not, cond, _&&_, _||_}
 use mathlib.Core.List.{List, [], _∷_}
 use mathlib.Core.Option.{Option, none, some}
 use Prim.Native.Nat.{ℕ, zero, suc, _+_, _-_, _≤_, _<_}
 use native.Mathlib.Omega.{arith}
-use lib.Dec.{T, leb, ltb, eqb, leb→le, nleb→lt, le→leb, eqb→eq, eqb-refl, not-T}
+use lib.Dec.{T, leb, eqb, leb→le, nleb→lt, eqb→eq, eqb-refl}
 use Rattle.rules.specs.Rules.{Range, before, without, any, find, lowest}
 use Rattle.rules.specs.Sound.{In, Pairwise}
 

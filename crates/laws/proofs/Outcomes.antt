@@ -1,16 +1,14 @@
 -- What a call comes to: a refusal, a piece taken, or a piece given. Assumes nothing.
-use mathlib.Core.Path.{_≡_, refl, sym, _∙_, ap, subst}
-use mathlib.Core.Logic.{_≢_, _⊎_, inl, inr, _↔_}
-use mathlib.Core.Bool.{Bool, true, false, not, cond, _&&_, _||_}
-use mathlib.Core.List.{List, [], _∷_}
+use mathlib.Core.Logic.{_≢_, _⊎_, inl, inr}
+use mathlib.Core.Bool.{Bool, not, _&&_}
+use mathlib.Core.List.{[]}
 use mathlib.Core.Option.{Option, none, some}
-use Prim.Native.Nat.{ℕ, zero, suc, _+_, _-_, _*_, _/_, _%_, _^_, _≤_, _<_}
+use Prim.Native.Nat.{ℕ, suc, _+_, _-_, _^_, _≤_, _<_}
 use native.Mathlib.Omega.{arith}
 use native.Mathlib.Nat.{div-add-mod', mod-lt, div-mul-le-self}
 use lib.Pow.{pow-pos}
-use lib.ListN.{length}
-use lib.Dec.{T, leb, ltb, eqb, leb→le, nleb→lt, le→leb, lt→ltb, ltb→lt, nltb→le, eqb→eq, eqb-refl}
-use Rattle.rules.specs.Rules.{top, Range, Book, total, down, up, any, find, unused, full, meets, contains, splits, whole, fits, taken, lower, upper, given, alone, Answer, accepted, refused, refuse, allocateFrom, allocate, reserveFrom, reserve, free, Call, Free, Allocate, Reserve, step, frees, from, past, covers}
+use lib.Dec.{T, leb, ltb, leb→le, nleb→lt, ltb→lt, nltb→le}
+use Rattle.rules.specs.Rules.{top, Range, Book, down, up, any, find, unused, full, meets, contains, splits, fits, taken, lower, upper, given, alone, Answer, accepted, refused, refuse, allocateFrom, allocate, reserveFrom, reserve, free, Call, Free, Allocate, Reserve, step, frees, from, past}
 use Rattle.rules.specs.Sound.{In}
 use Rattle.laws.proofs.Lists.{if, and-l, and-r, and-i, not-and, T-no, T-or-not, neq, any←, Found, found}
 use Rattle.rules.specs.Sound.{Sound}

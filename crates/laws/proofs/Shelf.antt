@@ -1,16 +1,15 @@
 -- The shelf: what the free bytes settle of it, and that it is the twelve lists joined. Assumes nothing.
 use mathlib.Core.Path.{_≡_, refl, sym, _∙_, ap, subst}
-use mathlib.Core.Logic.{_≢_, _⊎_, inl, inr, _↔_}
-use mathlib.Core.Bool.{Bool, true, false, not, cond, _&&_, _||_}
+use mathlib.Core.Logic.{_≢_, inl, inr, _↔_}
+use mathlib.Core.Bool.{Bool, true, false, cond}
 use mathlib.Core.List.{List, [], _∷_, _++_, map}
 use Prim.Native.Nat.{ℕ, zero, suc, _+_, _-_, _*_, _^_, _≤_, _<_}
 use native.Mathlib.Omega.{arith}
-use lib.Dec.{T, leb, ltb, eqb, leb→le, nleb→lt, le→leb, lt→ltb, ltb→lt, nltb→le, eqb→eq, eqb-refl, not-T}
-use Rattle.rules.specs.Rules.{sizeLists, Range, size, Book, empty, before, without, span, listing, freeAt, full, Call, run, least, listNumber, tally, ofList, lists}
+use lib.Dec.{T, leb, eqb, leb→le, nleb→lt, le→leb, eqb→eq, eqb-refl}
+use Rattle.rules.specs.Rules.{sizeLists, Range, size, Book, before, without, span, listing, full, least, listNumber, tally, ofList, lists}
 use Rattle.rules.specs.Sound.{In, Pairwise}
 use Rattle.laws.proofs.Lists.{if, T-no, T-or-not, T-true, T-false, neq, in-without→, in-without←, pairwise-without}
 use Rattle.rules.specs.Sound.{Other, Smaller, Sound}
-use Rattle.laws.proofs.Kept.{empty-sound}
 use Rattle.laws.proofs.Facts.{full-uses}
 use lib.ListN.{length}
 

@@ -1,12 +1,12 @@
 -- Demand 3 for the by-value calls, sentence by sentence, over the states themselves: from the empty allocator of n records, after any list of calls. Assumes nothing.
 use Prim.Native.Nat.{ℕ, _≤_}
-use mathlib.Core.Bool.{Bool, true, false, not, cond}
+use mathlib.Core.Bool.{Bool, true, false, not}
 use mathlib.Core.List.{List, map}
 use mathlib.Core.Logic.{_≢_}
 use mathlib.Core.Path.{_≡_, refl, sym, ap, _∙_, subst}
 use lib.Dec.{T}
 use Rattle.lists.specs.Links.{none}
-use Rattle.rules.specs.Rules.{top, size, Book, empty, total, span, listing, freeAt, Answer, Call, Free, Allocate, Reserve, step, run, voucher, trail, frees, covers, lastCovering, said, count, back, tally}
+use Rattle.rules.specs.Rules.{top, size, Book, empty, span, listing, freeAt, Answer, Call, Free, Allocate, Reserve, step, voucher, frees, covers, lastCovering, said, count, back, tally}
 use Rattle.rules.specs.Sound.{Sound}
 use Rattle.laws.proofs.Kept.{empty-sound}
 use Rattle.laws.proofs.Outcomes.{Outcome, refusal, took, gave, outcome}
@@ -23,7 +23,7 @@ use Rattle.calls.specs.Answers.{numberOf, addressOf}
 use Rattle.memory_allocator.specs.Promises.{judged, held}
 use Rattle.memory_allocator.specs.Histories.{made, after, voucherOf, vouchers, freeIn}
 use Rattle.memory_allocator.specs.declared.Outcome as result
-use Rattle.memory_allocator.proofs.Steps.{stands, made-held, made-voucher, after-run, vouchers-trail}
+use Rattle.memory_allocator.proofs.Steps.{made-held, made-voucher, after-run, vouchers-trail}
 
 module _ (n : ℕ) (small : n ≤ none) where
   -- the state of `new`, and the state after the calls

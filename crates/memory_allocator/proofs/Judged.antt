@@ -4,7 +4,7 @@ use mathlib.Core.Bool.{Bool, true, false, cond}
 use mathlib.Core.Path.{_≡_, refl, sym, ap, _∙_}
 use Rattle.lists.specs.Links.{none}
 use Rattle.rules.specs.Rules.{Book, Answer}
-use Rattle.state.specs.State.{Holds, stateOf}
+use Rattle.state.specs.State.{Holds}
 use Rattle.state.specs.Sound.{bookOf}
 use Rattle.state.specs.declared.MemoryAllocator.{MemoryAllocator}
 use Rattle.state.proofs.States.{holds-state}

@@ -1,18 +1,16 @@
 -- A call on the state that holds a sound book is the rule's on that book. Assumes nothing.
 use Prim.Native.Nat.{ℕ, zero, suc, _≤_}
-use mathlib.Core.Bool.{Bool, true, false, cond}
+use mathlib.Core.Bool.{true}
 use mathlib.Core.Logic.{_≢_}
 use mathlib.Core.List.{List, [], _∷_}
-use mathlib.Core.Path.{_≡_, refl, sym, ap, _∙_, subst}
+use mathlib.Core.Path.{_≡_, refl, ap, _∙_}
 use native.Mathlib.Omega.{arith}
 use Rattle.lists.specs.Links.{none}
-use Rattle.rules.specs.Rules.{Book, Answer, Call, Free, Allocate, Reserve, step, run, Voucher, voucher, trail, freeAt}
+use Rattle.rules.specs.Rules.{Book, Answer, Call, Free, Allocate, Reserve, step, run, voucher, trail}
 use Rattle.rules.specs.Sound.{Sound}
 use Rattle.laws.proofs.Outcomes.{Outcome, refusal, took, gave, outcome}
 use Rattle.laws.proofs.History.{step-sound}
 use Rattle.state.specs.State.{stateOf}
-use Rattle.state.specs.Sound.{bookOf, SoundState}
-use Rattle.state.specs.declared.MemoryAllocator.{MemoryAllocator}
 use Rattle.state.proofs.States.{state-holds}
 use Rattle.state.proofs.Book.{book-back, holds-sound}
 use Rattle.sound.specs.IsSound.{isSound}

@@ -1,6 +1,6 @@
 -- What each call answers and leaves, for every state. n is the number of records. Assumes nothing.
 use Prim.Native.Nat.{ℕ}
-use mathlib.Core.Bool.{Bool, cond}
+use mathlib.Core.Bool.{cond}
 use lib.Dec.{eqb}
 use Rattle.rules.specs.Rules as rules
 use Rattle.rules.specs.Rules.{Book}

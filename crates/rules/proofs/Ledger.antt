@@ -1,7 +1,6 @@
 -- The claim about the ledger's table, by computation. Assumes nothing.
 use mathlib.Core.Path.{_≡_, refl}
-use mathlib.Core.List.{List, map}
-use Prim.Native.Nat.{ℕ}
+use mathlib.Core.List.{map}
 use Rattle.rules.specs.Rules.{empty, sum, before, without, put, remove, any, find, lowest, unused, down, up, taken, joined, given, refuse, allocateFrom, allocate, reserveFrom, reserve, free, step}
 use Rattle.rules.specs.Ledger.{Case, bounds, play, table, halves, one-record, exact-tail}
 

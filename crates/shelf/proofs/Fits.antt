@@ -1,15 +1,14 @@
 -- The first range that fits. Assumes nothing.
-use Prim.Native.Nat.{ℕ, zero, suc, _+_, _-_, _*_, _/_, _%_, _^_, _<_, _≤_}
+use Prim.Native.Nat.{ℕ, zero, suc, _+_, _-_, _<_, _≤_}
 use mathlib.Core.Bool.{Bool, true, false, cond}
-use mathlib.Core.Logic.{_≢_, _⊎_, inl, inr, ⊎-elim}
+use mathlib.Core.Logic.{inl, inr}
 use mathlib.Core.List.{List, [], _∷_, _++_}
-use mathlib.Core.Option.{Option, none, some}
-use mathlib.Core.Path.{_≡_, refl, sym, ap, _∙_, subst}
+use mathlib.Core.Option.{none, some}
+use mathlib.Core.Path.{_≡_, refl, ap, _∙_}
 use lib.Dec.{T, leb, leb→le, le→leb, lit≤, not-T}
 use native.Mathlib.Omega.{arith}
 use native.Mathlib.Numerals.{add-one}
 use Rattle.lists.specs.Links as links
-use Rattle.lists.proofs.Laws.{true≢false}
 use Rattle.rules.specs.Rules.{sizeLists, Range, size, up, fits, find, listNumber, ofList, lists}
 use Rattle.rules.specs.Sound.{In}
 use Rattle.laws.proofs.Lists.{same-test, T-false}

@@ -1,28 +1,28 @@
 -- The shelf: what a record that goes out of it or into it does to what the arrays show.
-use Prim.Native.Nat.{ℕ, suc, _+_, _-_, _<_, _≤_}
-use mathlib.Core.Bool.{Bool, true, false, cond}
+use Prim.Native.Nat.{ℕ, _+_, _-_, _<_, _≤_}
+use mathlib.Core.Bool.{true}
 use mathlib.Core.Logic.{_≢_, _⊎_, inl, inr, ⊎-elim}
 use mathlib.Core.List.{List, [], _∷_, _++_}
-use mathlib.Core.Path.{_≡_, refl, sym, ap, _∙_, subst}
+use mathlib.Core.Path.{_≡_, refl, sym, ap, _∙_}
 use lib.ListN.{length, getD, set, length-set}
 use lib.Seq.{getD-set-same, getD-set-other}
-use lib.Dec.{eqb, eqb→eq, T}
+use lib.Dec.{eqb}
 use native.Mathlib.Omega.{arith}
 use borrow.Author.Tests.{eq-eqb, ne-eqb}
-use Rattle.lists.specs.Links.{pick, upd, none, head, lastFrom, after, Fresh, Listed, has}
+use Rattle.lists.specs.Links.{pick, upd, none, head, after, Listed, has}
 use Rattle.lists.specs.Links as links
 use Rattle.lists.specs.Threads.{Threads, cut, Between}
 use Rattle.lists.proofs.Laws.{same?, head-without, head-put, fresh-unless, listed-left, listed-widen}
 use Rattle.lists.proofs.Threading.{stored, same-lists, rekey}
-use Rattle.rules.specs.Rules.{Range, range, size, listNumber, ofList, before, without}
-use Rattle.rules.specs.Sound.{In, Pairwise}
-use Rattle.laws.proofs.Lists.{if, in-without→, pairwise-without, in-before→, pairwise-before}
-use Rattle.rules.specs.Sound.{Good, Smaller}
+use Rattle.rules.specs.Rules.{Range, range, size, ofList, before, without}
+use Rattle.rules.specs.Sound.{In}
+use Rattle.laws.proofs.Lists.{in-without→, pairwise-without, in-before→, pairwise-before}
+use Rattle.rules.specs.Sound.{Smaller}
 use Rattle.laws.proofs.Shelf.{num, num-lt, in-ofList, ofList-in, ofList-without, ofList-place}
-use Rattle.state.specs.Shown.{numbers, at, Stand, Runs, Walked, Gapped, Stops, keyAt, Shelved}
+use Rattle.state.specs.Shown.{numbers, at, Runs, Gapped, keyAt, Shelved}
 use Rattle.rules.specs.Rules.{sizeLists}
 use Rattle.shelf.specs.Shelf.{Removes, Places, Resizes}
-use Rattle.state.proofs.Walks.{numbers-append, in-has, has-in, fresh-numbers, numbers-without, without-fresh, before-at}
+use Rattle.state.proofs.Walks.{numbers-append, in-has, fresh-numbers, numbers-without, without-fresh, before-at}
 
 pub key-lt : (start end : List ℕ) (i : ℕ) → keyAt start end i < sizeLists
 key-lt start end i = num-lt (at start end i)

@@ -1,27 +1,26 @@
 -- The state that holds a book is one, and every sound book has one.
-use Prim.Native.Nat.{ℕ, zero, suc, _+_, _-_, _<_, _≤_}
-use mathlib.Core.Bool.{Bool, true, false, cond}
+use Prim.Native.Nat.{ℕ, suc, _-_, _<_}
+use mathlib.Core.Bool.{Bool, false}
 use mathlib.Core.Logic.{_≢_, _⊎_, inl, inr, ⊎-elim}
 use mathlib.Core.List.{List, [], _∷_}
 use mathlib.Core.Option.{Option, none, some}
-use mathlib.Core.Path.{_≡_, refl, sym, ap, _∙_, subst}
+use mathlib.Core.Path.{_≡_, refl, sym, ap, _∙_}
 use lib.ListN.{length, getD}
 use lib.Seq.{ext-getD}
-use lib.Dec.{T, eqb, eqb→eq, eqb-refl}
+use lib.Dec.{eqb, eqb→eq, eqb-refl}
 use native.Mathlib.Omega.{arith}
 use native.Mathlib.Nat.{zero-add}
 use borrow.Author.Tests.{eq-eqb, ne-eqb}
-use Rattle.lists.specs.Links.{head, before, after, tab, Listed, has}
+use Rattle.lists.specs.Links.{before, after, tab, Listed}
 use Rattle.lists.specs.Links as links
-use Rattle.lists.specs.Threads.{Threads, alone, only}
 use Rattle.lists.proofs.Laws.{same?, true≢false, length-tab, getD-tab}
-use Rattle.rules.specs.Rules.{Range, range, size, Book, total, find, listNumber, ofList}
+use Rattle.rules.specs.Rules.{Range, range, Book, find, listNumber, ofList}
 use Rattle.rules.specs.Sound.{In, Pairwise}
-use Rattle.laws.proofs.Lists.{if, Found, found, neq, T-no}
-use Rattle.rules.specs.Sound.{Sound, Good, Other}
+use Rattle.laws.proofs.Lists.{Found, found, neq, T-no}
+use Rattle.rules.specs.Sound.{Sound, Other}
 use Rattle.laws.proofs.Kept.{same-number}
 use Rattle.laws.proofs.Shelf.{num, ofList-in, ofList-number, ofList-pairwise}
-use Rattle.state.specs.Shown.{numbers, at, keyAt, Marked, Kept, Chained, Shelved, Shape}
+use Rattle.state.specs.Shown.{numbers, at, keyAt, Kept}
 use Rattle.rules.specs.Rules.{sizeLists}
 use Rattle.state.specs.State.{arrays, Holds, inRecord, startIn, lastIn, usedIn, listIn, stateOf}
 use Rattle.state.specs.declared.MemoryAllocator.{MemoryAllocator}

@@ -1,21 +1,20 @@
 -- Lists of ranges and a walk along one.
-use Prim.Native.Nat.{ℕ, suc, _+_, _-_, _<_, _≤_}
-use mathlib.Core.Bool.{Bool, true, false, cond}
+use Prim.Native.Nat.{ℕ, _+_, _-_, _<_, _≤_}
+use mathlib.Core.Bool.{true}
 use mathlib.Core.Logic.{_≢_, _⊎_, inl, inr, ⊎-elim}
-use mathlib.Core.List.{List, [], _∷_, _++_, append-nil}
+use mathlib.Core.List.{List, [], _∷_, _++_}
 use mathlib.Core.Path.{_≡_, refl, sym, ap, _∙_, subst}
-use lib.ListN.{length, getD, set, length-append}
+use lib.ListN.{length, getD, length-append}
 use lib.Seq.{append-snoc}
-use lib.Dec.{eqb, leb, eqb→eq}
 use native.Mathlib.Omega.{arith}
 use borrow.Author.Tests.{eq-eqb, ne-eqb, le-leb, lt-leb}
-use Rattle.lists.specs.Links.{pick, none, head, lastFrom, after, Fresh, Listed, has, steps}
+use Rattle.lists.specs.Links.{none, head, lastFrom, Fresh, Listed, has, steps}
 use Rattle.lists.specs.Links as links
-use Rattle.lists.proofs.Laws.{same?, after-mid, has-mid, listed-right, last-snoc, steps-walk, length-listed, has-left, has-right, true≢false, parted, not-has, has-cons}
-use Rattle.rules.specs.Rules.{Range, range, size, listNumber, ofList, before, without}
-use Rattle.rules.specs.Sound.{In, Pairwise}
+use Rattle.lists.proofs.Laws.{same?, after-mid, last-snoc, steps-walk, length-listed, true≢false, has-cons}
+use Rattle.rules.specs.Rules.{Range, before, without}
+use Rattle.rules.specs.Sound.{In}
 use Rattle.rules.specs.Sound.{Good}
-use Rattle.state.specs.Shown.{numbers, at, Stand, Runs, Walked, Gapped, Stops}
+use Rattle.state.specs.Shown.{numbers, at, Runs, Walked, Gapped, Stops}
 
 -- ---- numbers
 

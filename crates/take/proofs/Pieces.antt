@@ -1,34 +1,27 @@
 -- Moving: what each case leaves.
-use Prim.Native.Nat.{ℕ, zero, suc, _+_, _-_, _^_, _<_, _≤_}
-use mathlib.Core.Bool.{Bool, true, false, cond, _&&_}
-use mathlib.Core.Logic.{_≢_, _⊎_, inl, inr, ⊎-elim}
+use Prim.Native.Nat.{ℕ, suc, _+_, _-_, _^_, _<_, _≤_}
+use mathlib.Core.Bool.{Bool, false}
+use mathlib.Core.Logic.{_≢_, inl, inr}
 use mathlib.Core.List.{List, [], _∷_, _++_}
 use mathlib.Core.Path.{_≡_, refl, sym, ap, _∙_, subst}
-use lib.ListN.{length, getD, set}
+use lib.ListN.{getD, set}
 use lib.Seq.{append-snoc}
-use lib.Dec.{eqb, leb, ltb}
 use native.Mathlib.Omega.{arith}
 use native.Mathlib.Numerals.{add-one}
-use borrow.Author.Tests.{eq-eqb, ne-eqb, lt-ltb, le-ltb, le-leb, lt-leb, leb-true, leb-false}
-use Rattle.lists.specs.Links.{none, head, lastFrom, after, has, Listed}
-use Rattle.lists.proofs.Laws.{after-mid, last-snoc, below?}
-use Rattle.rules.specs.Rules.{Range, range, startOf, size, Book, total, before, without, put, remove, taken, unused, full, splits, lowest}
+use borrow.Author.Tests.{lt-ltb, le-ltb, le-leb, lt-leb}
+use Rattle.lists.specs.Links.{none, lastFrom, after, Listed}
+use Rattle.lists.proofs.Laws.{after-mid, last-snoc}
+use Rattle.rules.specs.Rules.{Range, range, startOf, size, Book, total, before, without, put, remove, taken, unused, full}
 use Rattle.rules.specs.Sound.{In, Pairwise}
-use Rattle.laws.proofs.Lists.{in-before→}
-use Rattle.rules.specs.Sound.{Sound, Good, Ahead, Apart, Other}
+use Rattle.rules.specs.Sound.{Good, Ahead, Apart, Other}
 use Rattle.laws.proofs.Kept.{others-apart, unused-other, in-put→, in-remove→}
-use Rattle.state.specs.Shown.{numbers, at, Stops, Walked, Gapped, Shelved, Chained, Marked, Shape}
-use Rattle.shelf.specs.Shelf.{Removes, Resizes}
+use Rattle.state.specs.Shown.{numbers, at, Stops, Gapped, Shelved, Shape}
+use Rattle.shelf.specs.Shelf.{Resizes}
 use Rattle.entries.specs.Entries.{Replaces, Inserts, Drops}
-use Rattle.state.specs.State.{arrays, Holds}
-use Rattle.entries.specs.Entries.{movingOf}
+use Rattle.state.specs.State.{arrays}
 use Rattle.take.specs.Take.{Asks, refuses, Takes}
-use Rattle.entries.specs.declared.Moving.{Moving}
 use Rattle.entries.specs.declared.Moving.the-variants.{Done, NoRecord}
-use Rattle.state.specs.declared.RecordIndex.{RecordIndex}
-use Rattle.entries.specs.declared.Slot.the-variants.{At, Full}
-use Rattle.entries.specs.Entries.{slotOf}
-use Rattle.state.proofs.Walks.{numbers-append, in-left, in-right, in-either}
+use Rattle.state.proofs.Walks.{numbers-append, in-left, in-either}
 use Rattle.entries.proofs.Books.{part, pair-low, pair-high, total-put, total-remove, replace-chain, swap-resizes, swap-shape}
 use Rattle.entries.proofs.Moves.{done, refused}
 

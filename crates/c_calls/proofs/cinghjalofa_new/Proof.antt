@@ -1,4 +1,4 @@
-use mathlib.Core.Path.{ap, sym, subst, _∙_}
+use mathlib.Core.Path.{ap, _∙_}
 use lib.Dec.{lit≤}
 use lib.IntN.{ℤ}
 use mir.Syntax.{w64}

@@ -1,9 +1,8 @@
 use mathlib.Core.Path.{refl, sym, _∙_}
 use native.Mathlib.Omega.{arith}
 use borrow.Author.Needs.{needs}
-use lib.Dec.{lit≤}
 use Rattle.state.specs.Shown.{pool}
-use Rattle.calls.specs.declared.Answer.the-variants.{NoMemory, InvalidRequest, NoEntry}
+use Rattle.calls.specs.declared.Answer.the-variants.{NoMemory, InvalidRequest}
 use Rattle.calls.proofs.Calls.{refusal, moved, unmoved, zero-size, high-order, too-few, none-fits, fitted, fit-known}
 use Rattle.calls.proofs.allocate_in.Statement.{statement}
 use Rattle.calls.proofs.allocate_in.Tie as tie

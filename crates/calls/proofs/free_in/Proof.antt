@@ -1,9 +1,8 @@
 use mathlib.Core.Path.{refl, sym, _∙_}
 use native.Mathlib.Omega.{arith}
 use borrow.Author.Needs.{needs}
-use lib.Dec.{lit≤}
 use Rattle.state.specs.Shown.{pool}
-use Rattle.calls.specs.declared.Answer.the-variants.{NoMemory, InvalidRequest, NoEntry}
+use Rattle.calls.specs.declared.Answer.the-variants.{InvalidRequest}
 use Rattle.calls.proofs.Calls.{refusal, moved, unmoved, chain-ordered, chain-placed, free-zero, free-past, free-overlaps, free-answer, offers}
 use Rattle.calls.proofs.free_in.Statement.{statement}
 use Rattle.calls.proofs.free_in.Tie as tie

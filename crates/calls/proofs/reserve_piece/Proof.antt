@@ -1,9 +1,7 @@
 use mathlib.Core.Path.{refl, sym, _∙_}
-use native.Mathlib.Omega.{arith}
 use borrow.Author.Needs.{needs}
-use lib.Dec.{lit≤}
 use Rattle.state.specs.Shown.{pool}
-use Rattle.calls.specs.declared.Answer.the-variants.{NoMemory, InvalidRequest, NoEntry}
+use Rattle.calls.specs.declared.Answer.the-variants.{InvalidRequest, NoEntry}
 use Rattle.calls.proofs.Calls.{refusal, moved, unmoved, chain-ordered, not-inside, inside}
 use Rattle.calls.proofs.reserve_piece.Statement.{statement}
 use Rattle.calls.proofs.reserve_piece.Tie as tie

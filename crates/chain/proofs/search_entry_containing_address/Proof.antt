@@ -1,11 +1,11 @@
-use Prim.Native.Nat.{_+_, _<_}
+use Prim.Native.Nat.{_+_}
 use mathlib.Core.Path.{_≡_, sym, ap, _∙_}
 use mathlib.Core.List.{List}
 use native.Mathlib.Omega.{arith}
 use lib.Dec.{lit≤}
 use lib.ListN.{getD}
 use Rattle.rules.specs.Rules.{Range, startOf}
-use Rattle.state.specs.Shown.{pool, at, Gapped}
+use Rattle.state.specs.Shown.{pool, Gapped}
 use Rattle.links.specs.Hits.{hitOf}
 use Rattle.links.specs.declared.Hit.the-variants.{At}
 use Rattle.chain.specs.Chain.{Ordered}

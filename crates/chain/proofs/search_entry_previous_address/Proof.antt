@@ -7,8 +7,7 @@ use lib.Dec.{lit≤}
 use lib.ListN.{getD}
 use Rattle.lists.specs.Links.{head, steps}
 use Rattle.rules.specs.Rules.{Range, startOf}
-use Rattle.rules.specs.Sound.{Good}
-use Rattle.state.specs.Shown.{pool, numbers, at, Runs, Walked}
+use Rattle.state.specs.Shown.{pool, numbers, Runs, Walked}
 use Rattle.state.proofs.Walks.{walk-starts, Stands, stands, stands-good, walk-stops, walk-on, walk-less, walk-ends}
 use Rattle.chain.proofs.search_entry_previous_address.Statement.{statement}
 use Rattle.chain.proofs.search_entry_previous_address.Tie as tie

@@ -1,6 +1,4 @@
 use mathlib.Core.Path.{refl}
-use lib.ListN.{length}
-use Prim.Native.Nat.{_≤_}
 use native.Mathlib.Omega.{arith}
 use mathlib.Core.Path.{sym}
 use lib.Seq.{set-out}

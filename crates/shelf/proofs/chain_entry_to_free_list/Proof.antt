@@ -1,5 +1,5 @@
 use Prim.Native.Nat.{ℕ}
-use mathlib.Core.Path.{_≡_, refl, ap, _∙_}
+use mathlib.Core.Path.{refl, ap, _∙_}
 use lib.Dec.{lit≤}
 use Rattle.lists.specs.Links.{head}
 use Rattle.rules.specs.Rules.{listNumber, ofList}

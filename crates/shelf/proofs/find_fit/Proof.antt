@@ -1,4 +1,4 @@
-use Prim.Native.Nat.{ℕ, _+_, _-_, _<_, _≤_}
+use Prim.Native.Nat.{ℕ, _+_, _-_, _≤_}
 use mathlib.Core.Path.{_≡_, refl, sym, ap, _∙_}
 use mathlib.Core.List.{List}
 use native.Mathlib.Omega.{arith}
@@ -9,11 +9,10 @@ use Rattle.lists.specs.Links.{steps}
 use Rattle.rules.specs.Rules.{Range, find, fits, ofList, lists}
 use Rattle.rules.specs.Sound.{Good}
 use Rattle.laws.proofs.Shelf.{twelve}
-use Rattle.state.specs.Shown.{pool, numbers, at, Shelved, Walked}
+use Rattle.state.specs.Shown.{pool, at, Shelved, Walked}
 use Rattle.rules.specs.Rules.{sizeLists}
 use Rattle.links.specs.Hits.{hitOf}
 use Rattle.links.specs.declared.Hit.the-variants.{At, Nothing}
-use Rattle.state.specs.declared.RecordIndex.{RecordIndex}
 use Rattle.state.proofs.Walks.{walk-starts, Stands, stands, stands-at, stands-good, walk-on, walk-less}
 use Rattle.shelf.proofs.Shelf.{runs}
 use Rattle.shelf.proofs.Fits.{mark, mark-off, list-passed, list-hit, list-end, walk-all, from-own}

@@ -1,4 +1,4 @@
-use mathlib.Core.Path.{_≡_, refl, ap, _∙_}
+use mathlib.Core.Path.{refl, ap, _∙_}
 use lib.Dec.{lit≤}
 use Rattle.rules.specs.Rules.{listNumber, ofList}
 use Rattle.state.specs.Shown.{pool, numbers, keyAt}

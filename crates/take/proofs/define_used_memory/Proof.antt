@@ -3,7 +3,7 @@ use mathlib.Core.Path.{sym, _∙_}
 use lib.Dec.{lit≤}
 use native.Mathlib.Omega.{arith}
 use Rattle.state.specs.Shown.{pool}
-use Rattle.take.proofs.Pieces.{high-resizes, high-taken, low-proper, low-resizes, low-shape, below, enough, last-below, from-is, last-is, drops, whole-done, piece-resizes, piece-shape, high-done, low-done, both-low, both-high, no-record, both-inserts, both-done}
+use Rattle.take.proofs.Pieces.{high-resizes, high-taken, low-proper, low-resizes, low-shape, below, enough, last-below, drops, whole-done, low-done, no-record, both-inserts, both-done}
 use Rattle.entries.proofs.Unused.{unused-is, slot-full, slot-at}
 use borrow.Author.Needs.{needs}
 use Rattle.take.proofs.define_used_memory.Statement.{statement}
