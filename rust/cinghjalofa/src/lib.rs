@@ -1,0 +1,224 @@
+#![doc = include_str!("../README.md")]
+#![no_std]
+#![deny(missing_docs)]
+
+#[cfg(not(target_pointer_width = "64"))]
+compile_error!("cinghjalofa: addresses have 64 bits");
+
+mod calls;
+mod image;
+
+pub use image::{FreeRange, FreeRanges};
+
+use image::Image;
+
+/// The length of an image.
+pub const IMAGE_BYTES: usize = 1370;
+
+/// Why a call was refused. A refused call has changed nothing.
+#[derive(Clone, Copy, PartialEq, Eq, Debug)]
+pub enum MemoryError {
+    /// A record is needed and all 64 are in use, or a reserve would take the only range whole.
+    NoEntry,
+    /// The bytes are no image of a sound allocator.
+    InvalidEntry,
+    /// Too few bytes are free, or no free range fits.
+    NoMemory,
+    /// Size 0, an order above 63, a bad or overlapping range, or a listing slice that is too short.
+    InvalidRequest,
+}
+
+/// The allocator, with its image inside: what MiniVisor's `MemoryAllocator` is replaced by.
+///
+/// Its image is changed by the proved calls alone, so it is always sound.
+///
+/// ```
+/// use cinghjalofa::{MemoryAllocator, MemoryError};
+///
+/// let mut memory = MemoryAllocator::new();
+/// memory.free(0x10000, 0x10000)?;
+/// assert_eq!(memory.allocate(0x1000, 0), Ok(0x10000));
+/// assert_eq!(memory.allocate(0x2000, 14), Ok(0x14000));
+/// assert_eq!(memory.allocate(0x10000, 0), Err(MemoryError::NoMemory));
+/// # Ok::<(), MemoryError>(())
+/// ```
+pub struct MemoryAllocator {
+    image: Image,
+}
+
+/// The allocator over an image that somebody else keeps, in a page shared with a boot loader for instance.
+///
+/// It cannot be made over bytes that are not sound, and while it lives nobody else can change them.
+///
+/// ```
+/// use cinghjalofa::{LentAllocator, MemoryError, IMAGE_BYTES};
+///
+/// let mut page = [0xaa; 4096];
+/// let image = &mut page[..IMAGE_BYTES];
+/// assert_eq!(LentAllocator::from_image(image).err(), Some(MemoryError::InvalidEntry));
+///
+/// LentAllocator::new(image)?.free(0x10000, 0x10000)?;
+/// let mut again = LentAllocator::from_image(image)?;
+/// assert_eq!(again.allocate(0x1000, 0), Ok(0x10000));
+/// assert_eq!(again.total(), 0xf000);
+/// # Ok::<(), MemoryError>(())
+/// ```
+pub struct LentAllocator<'a> {
+    image: &'a mut Image,
+}
+
+/// Whether the bytes are the image of a sound allocator: what the proved check says, asked by a call that is refused
+/// either way. It works on a copy of the bytes.
+///
+/// ```
+/// let image = *cinghjalofa::MemoryAllocator::new().image();
+/// assert!(cinghjalofa::is_sound(&image));
+/// assert!(!cinghjalofa::is_sound(&image[1..]));
+/// ```
+pub fn is_sound(image: &[u8]) -> bool {
+    match Image::try_from(image) {
+        // of a sound state the size 0 is refused, of any other the state
+        Ok(mut copy) => calls::allocate(&mut copy, 0, 0) == Err(MemoryError::InvalidRequest),
+        Err(_) => false,
+    }
+}
+
+impl MemoryAllocator {
+    /// The empty allocator. It needs no call, so a `static` may hold it.
+    pub const fn new() -> Self {
+        Self { image: image::EMPTY }
+    }
+
+    /// A copy of an image, or `InvalidEntry` where the bytes are not sound.
+    pub fn from_image(image: &[u8]) -> Result<Self, MemoryError> {
+        match Image::try_from(image) {
+            Ok(image) if is_sound(&image) => Ok(Self { image }),
+            _ => Err(MemoryError::InvalidEntry),
+        }
+    }
+
+    /// The image, to be stored or handed over.
+    pub const fn image(&self) -> &[u8; IMAGE_BYTES] {
+        &self.image
+    }
+
+    /// Takes `size` bytes at a multiple of 2^`align_order` (0: anywhere) from the smallest free range that fits, and
+    /// returns their address.
+    pub fn allocate(&mut self, size: usize, align_order: usize) -> Result<usize, MemoryError> {
+        calls::allocate(&mut self.image, size, align_order)
+    }
+
+    /// Takes these bytes, widened to multiples of 2^`align_order`, out of the free range that holds them all.
+    pub fn reserve_memory(&mut self, start_address: usize, size: usize, align_order: usize) -> Result<(), MemoryError> {
+        calls::reserve_memory(&mut self.image, start_address, size, align_order)
+    }
+
+    /// Gives bytes to the allocator, none of which may be free already.
+    pub fn free(&mut self, start: usize, size: usize) -> Result<(), MemoryError> {
+        calls::free(&mut self.image, start, size)
+    }
+
+    /// The number of free bytes.
+    pub fn total(&self) -> usize {
+        image::total(&self.image)
+    }
+
+    /// The free ranges by address.
+    ///
+    /// ```
+    /// use cinghjalofa::{FreeRange, MemoryAllocator};
+    ///
+    /// let mut memory = MemoryAllocator::new();
+    /// memory.free(0x8000, 0x1000).unwrap();
+    /// memory.free(0x2000, 0x1000).unwrap();
+    /// let ranges = [FreeRange { start: 0x2000, last: 0x2fff }, FreeRange { start: 0x8000, last: 0x8fff }];
+    /// assert!(memory.ranges().eq(ranges));
+    /// ```
+    pub fn ranges(&self) -> FreeRanges<'_> {
+        FreeRanges::of(&self.image)
+    }
+
+    /// Writes first and last bytes of the free ranges, by address, to two slices and returns their number.
+    /// `InvalidRequest`, and nothing written, where a slice is too short; 64 places are always enough.
+    ///
+    /// ```
+    /// let mut memory = cinghjalofa::MemoryAllocator::new();
+    /// memory.free(0x8000, 0x1000).unwrap();
+    /// let (mut starts, mut lasts) = ([0; 64], [0; 64]);
+    /// assert_eq!(memory.listing(&mut starts, &mut lasts), Ok(1));
+    /// assert_eq!((starts[0], lasts[0]), (0x8000, 0x8fff));
+    /// ```
+    pub fn listing(&self, starts: &mut [usize], lasts: &mut [usize]) -> Result<usize, MemoryError> {
+        image::listing(&self.image, starts, lasts)
+    }
+
+    /// The proved check, run again: false only where something wrote over the allocator's memory.
+    pub fn is_sound(&self) -> bool {
+        is_sound(&self.image)
+    }
+}
+
+impl Default for MemoryAllocator {
+    fn default() -> Self {
+        Self::new()
+    }
+}
+
+impl<'a> LentAllocator<'a> {
+    /// Writes the empty allocator over whatever is there; `InvalidEntry` where the slice has not
+    /// [`IMAGE_BYTES`] bytes.
+    pub fn new(image: &'a mut [u8]) -> Result<Self, MemoryError> {
+        calls::new(image)?;
+        Self::over(image)
+    }
+
+    /// Goes on with the allocator that is there; `InvalidEntry`, and no byte changed, where it is not sound.
+    pub fn from_image(image: &'a mut [u8]) -> Result<Self, MemoryError> {
+        if !is_sound(image) {
+            return Err(MemoryError::InvalidEntry);
+        }
+        Self::over(image)
+    }
+
+    fn over(image: &'a mut [u8]) -> Result<Self, MemoryError> {
+        match image.try_into() {
+            Ok(image) => Ok(Self { image }),
+            Err(_) => Err(MemoryError::InvalidEntry),
+        }
+    }
+
+    /// See [`MemoryAllocator::allocate`].
+    pub fn allocate(&mut self, size: usize, align_order: usize) -> Result<usize, MemoryError> {
+        calls::allocate(self.image, size, align_order)
+    }
+
+    /// See [`MemoryAllocator::reserve_memory`].
+    pub fn reserve_memory(&mut self, start_address: usize, size: usize, align_order: usize) -> Result<(), MemoryError> {
+        calls::reserve_memory(self.image, start_address, size, align_order)
+    }
+
+    /// See [`MemoryAllocator::free`].
+    pub fn free(&mut self, start: usize, size: usize) -> Result<(), MemoryError> {
+        calls::free(self.image, start, size)
+    }
+
+    /// See [`MemoryAllocator::total`].
+    pub fn total(&self) -> usize {
+        image::total(self.image)
+    }
+
+    /// See [`MemoryAllocator::ranges`].
+    pub fn ranges(&self) -> FreeRanges<'_> {
+        FreeRanges::of(self.image)
+    }
+
+    /// See [`MemoryAllocator::listing`].
+    pub fn listing(&self, starts: &mut [usize], lasts: &mut [usize]) -> Result<usize, MemoryError> {
+        image::listing(self.image, starts, lasts)
+    }
+
+    /// See [`MemoryAllocator::is_sound`].
+    pub fn is_sound(&self) -> bool {
+        is_sound(self.image)
+    }
+}

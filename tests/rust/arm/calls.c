@@ -1,0 +1,135 @@
+/* Plays document 01's script and a long list of calls, some of them over damaged images, and prints what came of them.
+ * It needs no C library, so that the kit's own clang and linker make it for either kind of machine; the two must print
+ * the same. */
+
+typedef unsigned char uint8_t;
+typedef unsigned long size_t;
+typedef unsigned long uint64_t;
+typedef long int64_t;
+
+enum { IMAGE = 1370, SCRIPT = 10, ROUNDS = 16, CALLS_IN_A_ROUND = 2000 };
+
+int64_t cinghjalofa_new(uint8_t *image, size_t len);
+int64_t cinghjalofa_allocate(uint8_t *image, size_t len, uint64_t size, uint64_t order);
+int64_t cinghjalofa_reserve_memory(uint8_t *image, size_t len, uint64_t start, uint64_t size, uint64_t order);
+int64_t cinghjalofa_free(uint8_t *image, size_t len, uint64_t start, uint64_t size);
+
+struct call {
+    char kind;
+    uint64_t start, size, order;
+};
+
+static const struct call script[SCRIPT] = {
+    {'f', 65536, 65536, 0}, {'a', 0, 4096, 0},   {'a', 0, 8192, 14},  {'f', 65536, 4096, 0},      {'f', 81920, 4096, 0},
+    {'f', 86016, 4096, 0},  {'a', 0, 65536, 0},  {'r', 65536, 65536, 0}, {'f', 131071, 2, 0}, {'r', 70000, 100, 12},
+};
+
+/* What the compiler may call by itself. */
+void *memcpy(void *to, const void *from, size_t count) {
+    for (size_t at = 0; at < count; at++) ((volatile uint8_t *)to)[at] = ((const uint8_t *)from)[at];
+    return to;
+}
+
+void *memset(void *to, int byte, size_t count) {
+    for (size_t at = 0; at < count; at++) ((volatile uint8_t *)to)[at] = (uint8_t)byte;
+    return to;
+}
+
+#if defined(__aarch64__)
+static int64_t system_call(int64_t number, int64_t first, const void *second, size_t third) {
+    register int64_t x8 __asm__("x8") = number;
+    register int64_t x0 __asm__("x0") = first;
+    register const void *x1 __asm__("x1") = second;
+    register size_t x2 __asm__("x2") = third;
+    __asm__ volatile("svc 0" : "+r"(x0) : "r"(x8), "r"(x1), "r"(x2) : "memory");
+    return x0;
+}
+enum { WRITE = 64, EXIT = 93 };
+#elif defined(__x86_64__)
+static int64_t system_call(int64_t number, int64_t first, const void *second, size_t third) {
+    int64_t answer;
+    __asm__ volatile("syscall" : "=a"(answer) : "a"(number), "D"(first), "S"(second), "d"(third)
+                     : "rcx", "r11", "memory");
+    return answer;
+}
+enum { WRITE = 1, EXIT = 60 };
+#endif
+
+static void print_line(const char *word, int64_t number) {
+    char line[64];
+    size_t to = sizeof line, length = 0;
+    uint64_t left = number < 0 ? -(uint64_t)number : (uint64_t)number;
+    line[--to] = '\n';
+    do line[--to] = (char)('0' + left % 10); while (left /= 10);
+    if (number < 0) line[--to] = '-';
+    line[--to] = ' ';
+    while (word[length]) length++;
+    while (length) line[--to] = word[--length];
+    system_call(WRITE, 1, line + to, sizeof line - to);
+}
+
+static uint64_t next_random(uint64_t *seed) {
+    uint64_t mixed = *seed += 0x9e3779b97f4a7c15;
+    mixed = (mixed ^ mixed >> 30) * 0xbf58476d1ce4e5b9;
+    mixed = (mixed ^ mixed >> 27) * 0x94d049bb133111eb;
+    return mixed ^ mixed >> 31;
+}
+
+static uint64_t below(uint64_t *seed, uint64_t limit) { return next_random(seed) % limit; }
+
+/* In each odd round pages in a small memory; in the others bytes, and numbers of any magnitude now and then. */
+static struct call random_call(uint64_t *seed, int round) {
+    uint64_t unit = round % 2 ? 4096 : 1;
+    struct call call = {"faaffr"[below(seed, 6)], below(seed, 600) * unit, (1 + below(seed, 12)) * unit, below(seed, 16)};
+    if (below(seed, 2)) call.order = 0;
+    if (round % 2 == 0 && below(seed, 8) == 0) call.start = next_random(seed) >> below(seed, 64);
+    if (round % 2 == 0 && below(seed, 8) == 0) call.size = next_random(seed) >> below(seed, 64);
+    if (round % 2 == 0 && below(seed, 8) == 0) call.order = below(seed, 70);
+    return call;
+}
+
+static int64_t play(uint8_t *image, const struct call *call) {
+    if (call->kind == 'f') return cinghjalofa_free(image, IMAGE, call->start, call->size);
+    if (call->kind == 'a') return cinghjalofa_allocate(image, IMAGE, call->size, call->order);
+    return cinghjalofa_reserve_memory(image, IMAGE, call->start, call->size, call->order);
+}
+
+/* FNV-1a */
+static uint64_t mix(uint64_t digest, const void *from, size_t count) {
+    for (size_t at = 0; at < count; at++) digest = (digest ^ ((const uint8_t *)from)[at]) * 0x100000001b3;
+    return digest;
+}
+
+/* The digest of every answer and, after it, of every byte of the image. */
+static uint64_t play_round(uint8_t *image, int round, int64_t *accepted) {
+    uint64_t seed = (uint64_t)round, digest = 0xcbf29ce484222325;
+    cinghjalofa_new(image, IMAGE);
+    for (int at = 0; at < CALLS_IN_A_ROUND; at++) {
+        struct call call = random_call(&seed, round);
+        uint8_t *damaged = below(&seed, 20) ? 0 : image + below(&seed, IMAGE);
+        uint8_t before = damaged ? *damaged : 0;
+        if (damaged) *damaged ^= (uint8_t)(1 + below(&seed, 255));
+        int64_t answer = play(image, &call);
+        *accepted += answer >= 0;
+        digest = mix(mix(digest, &answer, sizeof answer), image, IMAGE);
+        if (damaged && answer == -2) *damaged = before;
+    }
+    return digest;
+}
+
+void run_all(void) {
+    static uint8_t image[IMAGE + 1];
+    int64_t accepted = 0;
+    print_line("new over a longer slice", cinghjalofa_new(image, IMAGE + 1));
+    print_line("new", cinghjalofa_new(image, IMAGE));
+    for (int at = 0; at < SCRIPT; at++) print_line("script", play(image, &script[at]));
+    for (int round = 0; round < ROUNDS; round++) print_line("digest", (int64_t)play_round(image, round, &accepted));
+    print_line("accepted", accepted);
+    system_call(EXIT, 0, 0, 0);
+}
+
+#if defined(__aarch64__)
+__asm__(".globl _start\n_start: bl run_all\n");
+#elif defined(__x86_64__)
+__asm__(".globl _start\n_start: call run_all\n");
+#endif
