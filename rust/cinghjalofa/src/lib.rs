@@ -13,7 +13,7 @@ pub use image::{FreeRange, FreeRanges};
 use image::Image;
 
 /// The length of an image.
-pub const IMAGE_BYTES: usize = 1370;
+pub const IMAGE_BYTES: usize = calls::IMAGE_BYTES;
 
 /// Why a call was refused. A refused call has changed nothing.
 #[derive(Clone, Copy, PartialEq, Eq, Debug)]
