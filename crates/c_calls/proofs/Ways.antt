@@ -10,10 +10,9 @@ use lib.Signed.{ltZ}
 use lib.ListN.{length}
 use borrow.Author.Tests.{eq-eqb, ne-eqb, le-ltb}
 use Rattle.lists.specs.Links.{none}
-use Rattle.rules.specs.Rules.{Book, empty, Call, step}
+use Rattle.rules.specs.Rules.{empty, Call, step, Voucher}
 use Rattle.laws.proofs.Kept.{empty-sound}
 use Rattle.laws.proofs.History.{step-sound}
-use Rattle.state.specs.State.{stateOf}
 use Rattle.state.specs.Sound.{bookOf, SoundState}
 use Rattle.state.specs.declared.MemoryAllocator.{MemoryAllocator}
 use Rattle.sound.specs.IsSound.{isSound}
@@ -37,6 +36,16 @@ use Rattle.image.proofs.ReadBack.{frame-back}
 use Rattle.image.proofs.Rounds.{read-written, accepted-image}
 use Rattle.c_calls.specs.CCalls.{Returned, returned, signedOf, isAccepted, finished, callOver, begun, newOver, over, Finishes}
 use Rattle.c_calls.proofs.Below.{step-below}
+
+pub small-pool : (f : Layout) → Lawful f → f .records ≤ none
+small-pool f lawful = let h = lawful .records in let k = lawful .links in omega arith
+
+-- a call on a sound state is the rule's on its book
+pub made-step : (n : ℕ) → n ≤ none → (s : MemoryAllocator) (c : Call) → SoundState n s → made n s c ≡ held n (step n c (bookOf n s))
+made-step n small s c h = ap (λ (t : MemoryAllocator). made n t c) (sym (h .state)) ∙ made-held n small (bookOf n s) c (h .book)
+
+pub made-address : (n : ℕ) → n ≤ none → (s : MemoryAllocator) (c : Call) → SoundState n s → addressOf (made n s c .answer) ≡ step n c (bookOf n s) .address
+made-address n small s c h = ap (λ (t : MemoryAllocator). addressOf (made n t c .answer)) (sym (h .state)) ∙ ap (λ (v : Voucher). v .address) (made-voucher n small (bookOf n s) c (h .book))
 
 -- ---- an outcome
 
@@ -92,29 +101,21 @@ module _ (f : Layout) (c : Call) (l : List ℕ) (a : image.ImageAnswer) (s : Mem
   call-done r x e er is = rw (← read, e, ← er) is
 
   module _ (lawful : Lawful f) (bytes : Bytes l) (e : a ≡ image-answer.Done) where
-    small : f .records ≤ none
-    small = let h = lawful .records in let k = lawful .links in omega arith
-
     -- what was read is sound, and the image has its length
     sound-read : SoundState (f .records) s × (length l ≡ imageSize f)
     sound-read =
         let i = accepted-image f lawful l bytes (sym (ap (λ (h : Handed). h .number) read) ∙ ap writing.numberOf e) in
         let same : s ≡ i .state = ap (λ (h : Handed). h .state) (read ∙ ap (readingOf f) (sym (i .bytes)) ∙ read-written f lawful (i .state) (i .sound)) in
-        (subst (SoundState (f .records)) (sym same) (i .sound), sym (ap length (i .bytes)) ∙ frame-back f lawful (i .state) (sound-fits (f .records) small (i .state) (i .sound)) .sized)
-
-    abbrev book : Book
-    book = bookOf (f .records) s
+        (subst (SoundState (f .records)) (sym same) (i .sound), sym (ap length (i .bytes)) ∙ frame-back f lawful (i .state) (sound-fits (f .records) (small-pool f lawful) (i .state) (i .sound)) .sized)
 
     pub call-finishes : (r : Outcome) → r ≡ made (f .records) s c → Finishes f r l
     call-finishes r er =
         let h = sound-read .0 in
         let n = f .records in
-        let es : s ≡ stateOf n book = sym (h .state) in
-        let eh : r ≡ held n (step n c book) = er ∙ ap (λ (t : MemoryAllocator). made n t c) es ∙ made-held n small book c (h .book) in
-        let ea : addressOf (r .answer) ≡ step n c book .address = ap (λ (o : Outcome). addressOf (o .answer)) (er ∙ ap (λ (t : MemoryAllocator). made n t c) es) ∙ ap (λ (v : _). v .address) (made-voucher n small book c (h .book)) in
-        let low = step-below n book c (h .book) in
+        let b = bookOf n s in
+        let small = small-pool f lawful in
         record {
           sized = sound-read .1;
-          sound = ap (λ (o : Outcome). isSound n (o .state)) eh ∙ stands n small (step n c book .book) (step-sound n book c (h .book));
-          below = rw ea low;
+          sound = ap (λ (o : Outcome). isSound n (o .state)) (er ∙ made-step n small s c h) ∙ stands n small (step n c b .book) (step-sound n b c (h .book));
+          below = rw (ap (λ (o : Outcome). addressOf (o .answer)) er ∙ made-address n small s c h) (step-below n b c (h .book));
         }

@@ -28,15 +28,12 @@ pub record Returned : Type 0 where
 abbrev pub returned : ℤ → List ℕ → Returned
 returned i l = record { number = i; bytes = l }
 
--- the address, or minus the number of a refusal
-abbrev pub signed : ℕ → ℕ → ℤ
-signed k a = cond (eqb k 0) (pos a) (negℤ (pos k))
-
-abbrev pub signedOf : Answer → ℤ
-signedOf k = signed (numberOf k) (addressOf k)
-
 abbrev pub isAccepted : Answer → Bool
 isAccepted k = eqb (numberOf k) 0
+
+-- the address, or minus the number of the refusal
+abbrev pub signedOf : Answer → ℤ
+signedOf k = cond (isAccepted k) (pos (addressOf k)) (negℤ (pos (numberOf k)))
 
 -- the image of the state that an accepted call leaves; a refusal changes no byte
 unfoldable pub finished : Layout → Outcome → List ℕ → Returned
@@ -59,12 +56,15 @@ reserveOver f a z o l = callOver f (Reserve a z o) l
 abbrev pub freeOver : Layout → ℕ → ℕ → List ℕ → Returned
 freeOver f a z l = callOver f (Free a z) l
 
--- whatever is there serves, if it has the length
+-- the outcome of `new`
 abbrev pub begun : Layout → Outcome
 begun f = record { answer = Accepted (record { 0 = 0 }); state = stateOf (f .records) empty }
 
+-- whatever is there serves, if it has the length
 unfoldable pub newOver : Layout → List ℕ → Returned
 newOver f l = over f (eqb (length l) (imageSize f)) (begun f) l
+
+-- ---- what the inner functions cite
 
 -- the outcome can be answered by one signed number, and its state written over the bytes
 pub record Finishes (f : Layout) (r : Outcome) (l : List ℕ) : Type 0 where

@@ -1,2 +1,3 @@
--- What the contracts of the C calls cite, and what their lists of calls leave.
+-- What the contracts of the C calls cite, and what lists of them leave.
 pub mod CCalls
+pub mod Histories

@@ -15,6 +15,7 @@ ghost use Rattle.memory_allocator.specs.Histories.{made};
 ghost use Rattle.image_parts.specs.Layout.{current};
 ghost use Rattle.c_calls.specs.CCalls.{callOf, returned, callOver};
 
+// Start, size and order, as far as the call has them.
 pub enum Request {
     Allocate(u64, u64),
     Reserve(Address, u64, u64),

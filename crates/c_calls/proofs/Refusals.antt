@@ -1,0 +1,68 @@
+-- What a refusal leaves, which images are refused, and that the contracts allow one result. Assumes nothing.
+use Prim.Native.Nat.{ℕ}
+use mathlib.Core.Bool.{Bool, true, false, cond}
+use mathlib.Core.List.{List}
+use mathlib.Core.Logic.{_≢_}
+use mathlib.Core.Path.{_≡_, refl, sym, ap, _∙_}
+use lib.IntN.{ℤ}
+use lib.ListN.{length}
+use Rattle.rules.specs.Rules.{Call}
+use Rattle.calls.specs.declared.Answer.{Answer}
+use Rattle.calls.specs.declared.Answer.the-variants.{Accepted, NoEntry, InvalidEntry, NoMemory, InvalidRequest}
+use Rattle.memory_allocator.specs.declared.Outcome.{Outcome}
+use Rattle.bytes_be.specs.Numbers.{Bytes}
+use Rattle.image_parts.specs.Layout.{Layout, imageSize}
+use Rattle.image.specs.Writing.{imageOf}
+use Rattle.image.proofs.Fitting.{Lawful}
+use Rattle.image.proofs.Ways.{framed-not, unframed}
+use Rattle.image.proofs.Rounds.{Image, refused-exactly}
+use Rattle.c_calls.specs.CCalls.{Returned, returned, signedOf, isAccepted, finished, over, callOver, newOver}
+use Rattle.c_calls.specs.Histories.{numberFrom}
+use Rattle.c_calls.proofs.Ways.{no-room}
+
+module _ (f : Layout) (l : List ℕ) where
+  abbrev Unchanged : Returned → Type 0
+  Unchanged x = numberFrom (x .number) ≢ 0 → x .bytes ≡ l
+
+  finished-unchanged : (r : Outcome) → Unchanged (finished f r l)
+  unfolding finished
+  finished-unchanged r = go (r .answer)
+    where
+      go : (k : Answer) → numberFrom (signedOf k) ≢ 0 → cond (isAccepted k) (imageOf f (r .state)) l ≡ l
+      go (Accepted a) d = absurd (d refl)
+      go NoEntry d = refl
+      go InvalidEntry d = refl
+      go NoMemory d = refl
+      go InvalidRequest d = refl
+
+  over-unchanged : (serves : Bool) (r : Outcome) → Unchanged (over f serves r l)
+  unfolding over
+  over-unchanged true r = finished-unchanged r
+  over-unchanged false r = λ d. refl
+
+  -- A refusal changes no byte of the image, whatever it is,
+  pub refusal-unchanged : (c : Call) → Unchanged (callOver f c l)
+  unfolding callOver
+  refusal-unchanged c = over-unchanged _ _
+
+  -- also where the image of `new` was asked for.
+  pub new-unchanged : Unchanged (newOver f l)
+  unfolding newOver
+  new-unchanged = over-unchanged _ _
+
+  -- A slice of another length is -2, before all else:
+  pub wrong-length : (c : Call) → length l ≢ imageSize f → callOver f c l ≡ returned (signedOf InvalidEntry) l
+  unfolding callOver over
+  wrong-length c h = rw (← unframed f l false (framed-not f l h) refl)
+
+  pub new-wrong-length : length l ≢ imageSize f → newOver f l ≡ returned (signedOf InvalidEntry) l
+  new-wrong-length h = sym (no-room f l h)
+
+  -- and so are bytes that no sound state writes.
+  pub no-image : Lawful f → Bytes l → (Image f l → ⊥) → (c : Call) → callOver f c l ≡ returned (signedOf InvalidEntry) l
+  unfolding callOver over
+  no-image lawful bytes none-writes c = rw (refused-exactly f lawful l bytes .1 none-writes)
+
+-- Any two results that a contract allows coincide: the number, and every byte.
+pub determined : (x : Returned) (i j : ℤ) (l m : List ℕ) → returned i l ≡ x → returned j m ≡ x → (i ≡ j) × (l ≡ m)
+determined x i j l m e g = (ap (λ (y : Returned). y .number) (e ∙ sym g), ap (λ (y : Returned). y .bytes) (e ∙ sym g))
