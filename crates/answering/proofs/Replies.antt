@@ -1,0 +1,45 @@
+-- A line is answered where there is room, and else nothing is done. Assumes nothing.
+use mathlib.Core.Path.{_≡_, refl, sym, _∙_}
+use mathlib.Core.Bool.{Bool, true, false, not}
+use mathlib.Core.List.{List}
+use Prim.Native.Nat.{ℕ, _+_, _≤_}
+use native.Mathlib.Omega.{arith}
+use borrow.Author.Tests.{leb-true, not-true, not-false}
+use lib.Dec.{leb}
+use lib.ListN.{length}
+use Rattle.state.specs.declared.MemoryAllocator.{MemoryAllocator}
+use Rattle.memory_allocator.specs.Promises.{freeOf, allocateOf, reserveOf}
+use Rattle.memory_allocator.specs.declared.Outcome.{Outcome}
+use Rattle.lines.specs.declared.parse.Line.{Line}
+use Rattle.lines.specs.declared.parse.Line.the-variants as Say
+use Rattle.answering.specs.Script.{room, roomy, movedText, placedText, textOf, stateAfter, Says, Answers}
+use Rattle.answering.specs.declared.Answered.{Answered}
+
+no : true ≡ false → ⊥
+no e = let z : _≡_ {A = ℕ} 0 1 = cc in omega arith
+
+module _ (n : ℕ) (s : MemoryAllocator) (l : Line) (out : List ℕ) (at : ℕ) (b : Bool) (is : b ≡ roomy n out at) where
+  pub unanswered : not b ≡ true → Answers n s l out at (record { state = s; next = at }) out
+  unanswered h = let e : roomy n out at ≡ false = sym is ∙ not-true b h in record { state = rw e; bytes = rw e; next = rw e; whole = λ y. absurd (let z : _≡_ {A = Bool} true false = sym y ∙ e in no z) }
+
+  pub has-space : not b ≡ false → at + room n ≤ length out
+  has-space h = leb-true (at + room n) (length out) (sym is ∙ not-false b h)
+
+  pub answered : not b ≡ false → (k : Line) (r : Answered) (out′ : List ℕ) → l ≡ k → Says n (stateAfter n s k) (textOf n s k) out at r out′ → Answers n s l out at r out′
+  answered h k r out′ e w =
+      let yes : roomy n out at ≡ true = sym is ∙ not-false b h in
+      record { state = rw (yes, e) (w .state); bytes = rw (yes, e) (w .text .puts .bytes); next = rw (yes, e) (w .text .puts .next); whole = λ _. rw e (w .text .short) }
+
+-- what each call says
+module _ (n : ℕ) (s : MemoryAllocator) (m : Outcome) (out : List ℕ) (at : ℕ) (r : Answered) (out′ : List ℕ) where
+  pub free-says : (a z : ℕ) → m ≡ freeOf n s a z → Says n (m .state) (movedText (m .answer)) out at r out′ → Says n (stateAfter n s (Say.Free a z)) (textOf n s (Say.Free a z)) out at r out′
+  unfolding textOf stateAfter
+  free-says a z e w = rw e at w
+
+  pub reserve-says : (a z o : ℕ) → m ≡ reserveOf n s a z o → Says n (m .state) (movedText (m .answer)) out at r out′ → Says n (stateAfter n s (Say.Reserve a z o)) (textOf n s (Say.Reserve a z o)) out at r out′
+  unfolding textOf stateAfter
+  reserve-says a z o e w = rw e at w
+
+  pub allocate-says : (z o : ℕ) → m ≡ allocateOf n s z o → Says n (m .state) (placedText (m .answer)) out at r out′ → Says n (stateAfter n s (Say.Allocate z o)) (textOf n s (Say.Allocate z o)) out at r out′
+  unfolding textOf stateAfter
+  allocate-says z o e w = rw e at w

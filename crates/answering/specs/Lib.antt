@@ -1,0 +1,2 @@
+-- What the lines of the script print and leave.
+pub mod Script

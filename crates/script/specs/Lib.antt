@@ -1,0 +1,2 @@
+-- What the program's functions keep, whatever is read and written.
+pub mod Program
