@@ -36,12 +36,9 @@ closed n t (b ∷ l) = ends n t
 abbrev pub silent : MemoryAllocator → Told
 silent s = record { state = s; part = []; text = [] }
 
--- all that an input prints, from the state s
+-- all that was printed, once the input has ended
 abbrev pub textOfAll : ℕ → Told → List ℕ
 textOfAll n t = closed n t (t .part) .text
-
-unfoldable pub printed : ℕ → MemoryAllocator → List ℕ → List ℕ
-printed n s input = textOfAll n (heard n (silent s) input)
 
 -- ---- what the arrays hold
 

@@ -1,0 +1,20 @@
+"""Long inputs and outputs, whose answers repeat."""
+from ledger import APART, ok
+from program import Case, lines
+
+# from one free range, 65536 to 131071, back to it
+ROUND = ["a 4096 0", "f 65536 4096", "r 70000 100 12", "f 69632 4096", "a 65536 0", "f 131071 2", "bad", "l"]
+ROUND_ANSWERS = ["ok 65536", "ok", "ok", "ok", "no 3", "no 4", "bad", "list 1 65536", "65536 131071"]
+
+ROUNDS = 125000
+MOST_SECONDS = 60
+
+
+def million():
+    given = lines(["f 65536 65536"]) + lines(ROUND) * ROUNDS
+    return Case("a million lines", given, b"ok\n" + lines(ROUND_ANSWERS) * ROUNDS)
+
+
+def listings():
+    table = ["list 64 262144"] + [f"{8192 * k} {8192 * k + 4095}" for k in range(1, 65)]
+    return Case("a thousand listings of 64 ranges", lines(APART.split("|") + ["l"] * 1000), lines(ok(64).split("|") + table * 1000))

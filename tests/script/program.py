@@ -1,0 +1,58 @@
+"""Runs the script program on an input, and holds what it prints to what is expected."""
+import os
+import subprocess
+import tempfile
+
+ROOT = os.path.abspath(os.path.join(os.path.dirname(__file__), "..", ".."))
+PROGRAM = [os.path.join(ROOT, "tools", "program"), "script"]
+
+
+class Case:
+    """An input and its whole output, both bytes."""
+
+    def __init__(self, name, given, expected):
+        self.name, self.given, self.expected = name, given, expected
+
+
+def calls(name, script, answers):
+    """A case from one line of calls and one of answers, parted by `|`; an answer line may be an item of its own."""
+    return Case(name, lines(script.split("|")), lines(answers.split("|")))
+
+
+def lines(texts):
+    return "".join(text + "\n" for text in texts).encode()
+
+
+def build():
+    return subprocess.run(PROGRAM, stdin=subprocess.DEVNULL).returncode == 0
+
+
+def from_file(given, command=PROGRAM, **more):
+    """The output and the exit status, with the input in a file, so that a read takes as much as it asks for."""
+    with tempfile.TemporaryFile() as held:
+        held.write(given)
+        held.seek(0)
+        ended = subprocess.run(command, stdin=held, stdout=subprocess.PIPE, stderr=subprocess.PIPE, **more)
+    return ended.stdout, ended.returncode
+
+
+def byte_by_byte(given):
+    """The same through a pipe that is fed one byte at a time."""
+    running = subprocess.Popen(PROGRAM, stdin=subprocess.PIPE, stdout=subprocess.PIPE)
+    for byte in given:
+        running.stdin.write(bytes([byte]))
+        running.stdin.flush()
+    running.stdin.close()
+    got = running.stdout.read()
+    return got, running.wait()
+
+
+def shown(text, most=600):
+    return repr(text) if len(text) <= most else f"{text[:most]!r}.. ({len(text)} bytes)"
+
+
+def told(name, given, expected, got, status):
+    """What is wrong with a run, or nothing."""
+    if got == expected and status == 0:
+        return None
+    return f"{name}\n  input:    {shown(given)}\n  expected: {shown(expected)}\n  got:      {shown(got)} (status {status})"
