@@ -8,8 +8,8 @@ use Rattle.state.specs.Sound.{bookOf}
 use Rattle.state.specs.declared.MemoryAllocator.{MemoryAllocator}
 use Rattle.state.proofs.Book.{sound-holds}
 use Rattle.sound.specs.IsSound.{isSound}
-use Rattle.sound.specs.Paragraph.{Sized}
-use Rattle.sound.proofs.Exact.{passes-sound}
+use Rattle.soundness.specs.Paragraph.{Sized}
+use Rattle.soundness.proofs.Exact.{passes-sound}
 use Rattle.chain.specs.Chain.{Ordered}
 use Rattle.listing.specs.Listing as in-place
 use Rattle.listing.specs.declared.Listed.{Listed}

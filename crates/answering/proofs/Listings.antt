@@ -13,16 +13,16 @@ use Rattle.rules.specs.Rules.{startOf}
 use Rattle.state.specs.Sound.{bookOf}
 use Rattle.state.specs.declared.MemoryAllocator.{MemoryAllocator}
 use Rattle.sound.specs.IsSound.{isSound}
-use Rattle.sound.specs.Paragraph.{Sized}
+use Rattle.soundness.specs.Paragraph.{Sized}
 use Rattle.calls.specs.Answers.{numberOf}
 use Rattle.listing.specs.Listing.{lastOf, listedOf, shown}
 use Rattle.listing.proofs.Walk.{few}
 use Rattle.accounts.specs.Accounts.{counted, totalOf, listingOf, shownOf, Lists}
 use Rattle.accounts.specs.declared.Counted.{Counted}
 use Rattle.accounts.proofs.Shows.{ordered}
-use Rattle.lines.specs.Answers.{noText, listText, Puts}
-use Rattle.lines.proofs.Buffers.{at-most-48}
-use Rattle.answering.specs.Script.{line, room, rangesText, listingText, rows, tableText, PutsWithin}
+use Rattle.texts.specs.Answers.{noText, listText, Puts}
+use Rattle.texts.proofs.Buffers.{at-most-48}
+use Rattle.answering.specs.Script.{line, room, rangesText, listingText, tableText, PutsWithin}
 use Rattle.answering.proofs.Tables.{rows-ranges}
 
 module _ (n : ℕ) (s : MemoryAllocator) (held : Counted) (is : held ≡ totalOf n s) (m : ℕ) (number : m ≡ numberOf (held .answer)) where

@@ -1,11 +1,10 @@
 -- A line is answered where there is room, and else nothing is done. Assumes nothing.
-use mathlib.Core.Path.{_≡_, refl, sym, _∙_}
+use mathlib.Core.Path.{_≡_, sym, _∙_}
 use mathlib.Core.Bool.{Bool, true, false, not}
 use mathlib.Core.List.{List}
 use Prim.Native.Nat.{ℕ, _+_, _≤_}
 use native.Mathlib.Omega.{arith}
 use borrow.Author.Tests.{leb-true, not-true, not-false}
-use lib.Dec.{leb}
 use lib.ListN.{length}
 use Rattle.state.specs.declared.MemoryAllocator.{MemoryAllocator}
 use Rattle.memory_allocator.specs.Promises.{freeOf, allocateOf, reserveOf}

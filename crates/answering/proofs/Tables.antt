@@ -10,8 +10,8 @@ use lib.Dec.{leb}
 use lib.ListN.{length, getD, take, drop, length-append, length-take, length-drop, take-append-drop}
 use Rattle.rules.specs.Rules.{Range, startOf}
 use Rattle.listing.specs.Listing.{lastOf}
-use Rattle.lines.specs.Answers.{rangeText, listText, written, Puts}
-use Rattle.lines.proofs.Buffers.{put-all, put-then, all-next, at-most-48}
+use Rattle.texts.specs.Answers.{rangeText, listText, written, Puts}
+use Rattle.texts.proofs.Buffers.{put-all, put-then, all-next, at-most-48}
 use Rattle.answering.specs.Script.{line, PutsWithin, rangesText, rows, tableText}
 
 rows-cons : (k a b : ℕ) (ss ls : List ℕ) → rows (suc k) (a ∷ ss) (b ∷ ls) ≡ rangeText a b ++ rows k ss ls

@@ -1,5 +1,5 @@
 -- A call's answer, by its number. Assumes nothing.
-use mathlib.Core.Path.{_≡_, refl}
+use mathlib.Core.Path.{_≡_}
 use mathlib.Core.Logic.{_≢_}
 use mathlib.Core.List.{List}
 use Prim.Native.Nat.{ℕ, _^_, _<_, _≤_}
@@ -9,8 +9,8 @@ use borrow.Author.Tests.{eq-eqb, ne-eqb}
 use Rattle.calls.specs.Answers.{numberOf, addressOf}
 use Rattle.calls.specs.declared.Answer.{Answer}
 use Rattle.calls.specs.declared.Answer.the-variants.{Accepted, NoEntry, InvalidEntry, NoMemory, InvalidRequest}
-use Rattle.lines.specs.Answers.{okText, okAt, noText, Puts}
-use Rattle.lines.proofs.Buffers.{at-most-48}
+use Rattle.texts.specs.Answers.{okText, okAt, noText, Puts}
+use Rattle.texts.proofs.Buffers.{at-most-48}
 use Rattle.answering.specs.Script.{line, movedText, placedText, PutsWithin}
 
 number-small : (k : Answer) → numberOf k < 2 ^ 64

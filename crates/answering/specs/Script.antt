@@ -13,7 +13,7 @@ use Rattle.sound.specs.IsSound.{isSound}
 use Rattle.calls.specs.Answers.{numberOf, addressOf}
 use Rattle.calls.specs.declared.Answer.{Answer}
 use Rattle.memory_allocator.specs.Promises.{allocateOf, reserveOf, freeOf}
-use Rattle.lines.specs.Answers.{okText, okAt, noText, badText, rangeText, listText, written, past, Puts}
+use Rattle.texts.specs.Answers.{okText, okAt, noText, badText, rangeText, listText, written, past, Puts}
 use Rattle.lines.specs.declared.parse.Line.{Line}
 use Rattle.lines.specs.declared.parse.Line.the-variants as Say
 use Rattle.answering.specs.declared.Answered.{Answered}

@@ -1,17 +1,17 @@
 // The texts of the answers that calls give.
 use calls::Answer;
-use lines::print::put_list;
-use lines::print::put_no;
-use lines::print::put_ok;
-use lines::print::put_ok_at;
-use lines::print::put_range;
 use state::POOL;
+use texts::put_list;
+use texts::put_no;
+use texts::put_ok;
+use texts::put_ok_at;
+use texts::put_range;
 ghost use mathlib.Core.Path.{_≡_};
 ghost use Prim.Native.Nat.{_+_, _*_, _≤_};
 ghost use lib.ListN.{length};
 ghost use Rattle.state.specs.Shown.{pool};
 ghost use Rattle.calls.specs.Answers.{numberOf, addressOf};
-ghost use Rattle.lines.specs.Answers.{rangeText};
+ghost use Rattle.texts.specs.Answers.{rangeText};
 ghost use Rattle.answering.specs.Script.{line, PutsWithin, movedText, placedText, tableText};
 
 // No line of an answer is longer.

@@ -13,7 +13,8 @@ use Rattle.state.specs.Sound.{bookOf, SoundState}
 use Rattle.state.specs.declared.MemoryAllocator.{MemoryAllocator}
 use Rattle.calls.specs.Answers.{addressOf}
 use Rattle.memory_allocator.specs.Histories as history
-use Rattle.memory_allocator.specs.Histories.{made, voucherOf}
+use Rattle.memory_allocator.specs.Histories.{voucherOf}
+use Rattle.memory_allocator.specs.Promises.{made}
 use Rattle.memory_allocator.proofs.Demand as states
 use Rattle.image_parts.specs.Layout.{Layout, imageSize}
 use Rattle.image.specs.Writing.{imageOf}

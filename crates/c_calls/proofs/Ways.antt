@@ -10,27 +10,25 @@ use lib.Signed.{ltZ}
 use lib.ListN.{length}
 use borrow.Author.Tests.{eq-eqb, ne-eqb, le-ltb}
 use Rattle.lists.specs.Links.{none}
-use Rattle.rules.specs.Rules.{empty, Call, step, Voucher}
-use Rattle.laws.proofs.Kept.{empty-sound}
-use Rattle.laws.proofs.History.{step-sound}
+use Rattle.rules.specs.Rules.{Call, step, Voucher}
 use Rattle.state.specs.Sound.{bookOf, SoundState}
 use Rattle.state.specs.declared.MemoryAllocator.{MemoryAllocator}
 use Rattle.sound.specs.IsSound.{isSound}
+use Rattle.soundness.proofs.Exact.{sound-passes}
 use Rattle.calls.specs.Answers.{addressOf}
 use Rattle.calls.specs.declared.Answer.{Answer}
 use Rattle.calls.specs.declared.Answer.the-variants.{Accepted, NoEntry, InvalidEntry, NoMemory, InvalidRequest}
 use Rattle.memory_allocator.specs.Promises.{held}
-use Rattle.memory_allocator.specs.Histories.{made}
+use Rattle.memory_allocator.specs.Promises.{made}
 use Rattle.memory_allocator.specs.declared.Outcome.{Outcome}
-use Rattle.memory_allocator.proofs.Steps.{stands, made-held, made-voucher}
+use Rattle.memory_allocator.proofs.Steps.{made-held, made-voucher}
 use Rattle.bytes_be.specs.Numbers.{Bytes}
 use Rattle.image_parts.specs.Layout.{Layout, imageSize}
 use Rattle.image.specs.Writing as writing
-use Rattle.image.specs.Writing.{Written, imageOf, written, writingOf}
+use Rattle.image.specs.Writing.{imageOf}
 use Rattle.image.specs.Reading.{Handed, handed, readingOf}
 use Rattle.image.specs.declared.ImageAnswer as image
 use Rattle.image.specs.declared.ImageAnswer.the-variants as image-answer
-use Rattle.image.proofs.Ways.{done}
 use Rattle.image.proofs.Fitting.{Lawful, sound-fits}
 use Rattle.image.proofs.ReadBack.{frame-back}
 use Rattle.image.proofs.Rounds.{read-written, accepted-image}
@@ -69,11 +67,9 @@ module _ (f : Layout) (r : Outcome) (l : List ℕ) (i : ℤ) (number : i ≡ sig
   unfolding finished
   refusal-leaves t = rw (number, accepts true t)
 
-  pub accepted-leaves : (a : image.ImageAnswer) (l′ : List ℕ) → ltZ i (pos 0) ≡ false → Finishes f r l → written a l′ ≡ writingOf f (r .state) l → returned i l′ ≡ finished f r l
+  pub accepted-leaves : (l′ : List ℕ) → ltZ i (pos 0) ≡ false → l′ ≡ imageOf f (r .state) → returned i l′ ≡ finished f r l
   unfolding finished
-  accepted-leaves a l′ t h w =
-      let bytes : l′ ≡ imageOf f (r .state) = ap (λ (y : Written). y .bytes) (w ∙ sym (done f (r .state) l (h .sized) true (sym (h .sound)) _ refl refl)) in
-      rw (number, bytes, accepts false t)
+  accepted-leaves l′ t is = rw (number, is, accepts false t)
 
 -- ---- a new image
 
@@ -82,8 +78,8 @@ module _ (f : Layout) (l : List ℕ) where
   unfolding newOver over
   no-room h = rw (ne-eqb (length l) (imageSize f) h)
 
-  pub begins : f .records ≤ none → length l ≡ imageSize f → Finishes f (begun f) l
-  begins small h = record { sized = h; sound = stands (f .records) small empty (empty-sound (f .records)); below = lit< tt }
+  pub begins : length l ≡ imageSize f → Finishes f (begun f) l
+  begins h = record { sized = h; below = lit< tt }
 
   pub new-done : (x : Returned) → length l ≡ imageSize f → x ≡ finished f (begun f) l → x ≡ newOver f l
   unfolding newOver over
@@ -108,6 +104,9 @@ module _ (f : Layout) (c : Call) (l : List ℕ) (a : image.ImageAnswer) (s : Mem
         let same : s ≡ i .state = ap (λ (h : Handed). h .state) (read ∙ ap (readingOf f) (sym (i .bytes)) ∙ read-written f lawful (i .state) (i .sound)) in
         (subst (SoundState (f .records)) (sym same) (i .sound), sym (ap length (i .bytes)) ∙ frame-back f lawful (i .state) (sound-fits (f .records) (small-pool f lawful) (i .state) (i .sound)) .sized)
 
+    pub sound-known : isSound (f .records) s ≡ true
+    sound-known = sound-passes (f .records) (small-pool f lawful) s (sound-read .0)
+
     pub call-finishes : (r : Outcome) → r ≡ made (f .records) s c → Finishes f r l
     call-finishes r er =
         let h = sound-read .0 in
@@ -116,6 +115,5 @@ module _ (f : Layout) (c : Call) (l : List ℕ) (a : image.ImageAnswer) (s : Mem
         let small = small-pool f lawful in
         record {
           sized = sound-read .1;
-          sound = ap (λ (o : Outcome). isSound n (o .state)) (er ∙ made-step n small s c h) ∙ stands n small (step n c b .book) (step-sound n b c (h .book));
           below = rw (ap (λ (o : Outcome). addressOf (o .answer)) er ∙ made-address n small s c h) (step-below n b c (h .book));
         }

@@ -1,6 +1,6 @@
 -- What each C call returns, and every byte of the image that it leaves, for every image and all numbers. Assumes nothing.
 use Prim.Native.Nat.{ℕ, _<_}
-use mathlib.Core.Bool.{Bool, true, cond}
+use mathlib.Core.Bool.{Bool, cond}
 use mathlib.Core.List.{List}
 use mathlib.Core.Path.{_≡_}
 use lib.Dec.{eqb}
@@ -8,17 +8,14 @@ use lib.IntN.{ℤ, pos, negℤ}
 use lib.ListN.{length}
 use Rattle.rules.specs.Rules.{top, empty, Call, Free, Allocate, Reserve}
 use Rattle.state.specs.State.{stateOf}
-use Rattle.sound.specs.IsSound.{isSound}
 use Rattle.calls.specs.Answers.{numberOf, addressOf}
 use Rattle.calls.specs.declared.Answer.{Answer}
 use Rattle.calls.specs.declared.Answer.the-variants.{Accepted, InvalidEntry}
-use Rattle.memory_allocator.specs.Histories.{made}
+use Rattle.memory_allocator.specs.Promises.{made}
 use Rattle.memory_allocator.specs.declared.Outcome.{Outcome}
 use Rattle.image_parts.specs.Layout.{Layout, imageSize}
 use Rattle.image.specs.Writing.{imageOf}
 use Rattle.image.specs.Reading.{readingOf}
-use Rattle.c_calls.specs.declared.request.Request.{Request}
-use Rattle.c_calls.specs.declared.request.Request.the-variants as asks
 
 -- what a call returns, and the image that it leaves
 pub record Returned : Type 0 where
@@ -69,11 +66,4 @@ newOver f l = over f (eqb (length l) (imageSize f)) (begun f) l
 -- the outcome can be answered by one signed number, and its state written over the bytes
 pub record Finishes (f : Layout) (r : Outcome) (l : List ℕ) : Type 0 where
   pub sized : length l ≡ imageSize f
-  pub sound : isSound (f .records) (r .state) ≡ true
   pub below : addressOf (r .answer) < top
-
--- the call that a request stands for
-abbrev pub callOf : Request → Call
-callOf (asks.Allocate z o) = Allocate z o
-callOf (asks.Reserve a z o) = Reserve (a .0) z o
-callOf (asks.Free a z) = Free (a .0) z

@@ -1,6 +1,6 @@
 // What every C call does with an outcome.
 use calls::Answer;
-use image::write_image;
+use image::write_state;
 use memory_allocator::Outcome;
 ghost use mathlib.Core.Path.{_≡_};
 ghost use Prim.Native.Nat.{_<_};
@@ -35,6 +35,6 @@ pub fn finish_call(outcome: Outcome, image: &mut [u8]) -> i64
     if number < 0 {
         return number;
     }
-    write_image(outcome.state, image);
+    write_state(outcome.state, image);
     number
 }

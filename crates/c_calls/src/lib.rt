@@ -5,15 +5,15 @@ use finish::finish_call;
 use image_parts::layout::IMAGE;
 use memory_allocator::Outcome;
 use memory_allocator::new;
-use request::Request;
-use request::call_over;
+use over::call_over;
+use requests::Request;
 use state::Address;
 ghost use mathlib.Core.Path.{_≡_};
 ghost use Rattle.image_parts.specs.Layout.{current};
 ghost use Rattle.c_calls.specs.CCalls.{returned, newOver, allocateOver, reserveOver, freeOver};
 
 mod finish;
-mod request;
+mod over;
 
 // The image of the empty allocator, over whatever is there.
 #[no_mangle]

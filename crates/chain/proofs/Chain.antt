@@ -2,7 +2,7 @@
 use Prim.Native.Nat.{ℕ, _+_, _-_, _≤_}
 use mathlib.Core.Bool.{true}
 use mathlib.Core.Logic.{_≢_, _⊎_, ⊎-elim}
-use mathlib.Core.List.{List, [], _∷_, _++_}
+use mathlib.Core.List.{List, _∷_, _++_}
 use mathlib.Core.Path.{_≡_, sym, ap, _∙_}
 use lib.ListN.{getD}
 use lib.Dec.{eqb}

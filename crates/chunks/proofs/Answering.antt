@@ -1,6 +1,6 @@
 -- A line that is held, answered. Assumes nothing.
 use mathlib.Core.Path.{_≡_, refl, sym, ap, _∙_}
-use mathlib.Core.Bool.{Bool, true, false, cond}
+use mathlib.Core.Bool.{true}
 use mathlib.Core.List.{List, [], _∷_, _++_, append-assoc}
 use Prim.Native.Nat.{ℕ, zero, suc, _+_, _-_, _<_, _≤_}
 use native.Mathlib.Omega.{arith}
@@ -8,13 +8,13 @@ use borrow.Author.Tests.{leb-true}
 use lib.ListN.{length, take, drop, length-append, length-take, length-drop}
 use lib.Seq.{length-take-le, take-at, take-nil}
 use Rattle.state.specs.declared.MemoryAllocator.{MemoryAllocator}
-use Rattle.lines.specs.Answers.{Puts}
+use Rattle.texts.specs.Answers.{Puts}
 use Rattle.lines.specs.Script.{lineOf}
 use Rattle.lines.specs.declared.parse.Line.{Line}
-use Rattle.lines.proofs.Buffers.{all-bytes, all-next}
+use Rattle.texts.proofs.Buffers.{all-bytes, all-next}
 use Rattle.answering.specs.Script.{room, roomy, textOf, stateAfter, Answers}
 use Rattle.answering.specs.declared.Answered.{Answered}
-use Rattle.chunks.specs.Input.{Told, ends, joined, heard, closed, textOfAll, kept, between, Holds, Joins, Shows, Ready, Rests, Steps, Hears, Closes}
+use Rattle.chunks.specs.Input.{Told, ends, joined, heard, closed, kept, between, Holds, Joins, Shows, Ready, Rests, Steps, Hears, Closes}
 use Rattle.chunks.specs.declared.Reading.{Reading}
 use Rattle.chunks.proofs.Carrying.{carried, held-line}
 

@@ -6,7 +6,7 @@ use Prim.Native.Nat.{ℕ, zero, suc, _+_, _-_, _<_, _≤_}
 use native.Mathlib.Numerals.{add-one}
 use native.Mathlib.Omega.{arith}
 use borrow.Author.Tests.{lt-leb}
-use lib.ListN.{length, take, drop, set, getD, length-append, length-take, length-drop, length-set}
+use lib.ListN.{length, take, drop, set, getD, length-drop, length-set}
 use lib.Seq.{length-take-le, take-all, take-at, take-suc, take-suc-set, getD-drop}
 use Rattle.lists.proofs.Laws.{below?}
 use Rattle.lines.specs.Script.{lineOf}

@@ -11,8 +11,8 @@ use Rattle.state.specs.Sound.{bookOf, SoundState}
 use Rattle.state.proofs.Book.{sound-holds}
 use Rattle.state.specs.declared.MemoryAllocator.{MemoryAllocator}
 use Rattle.sound.specs.IsSound.{used}
-use Rattle.sound.specs.Paragraph.{Sized, Link, Links, Paragraph}
-use Rattle.sound.proofs.Exact.{paragraph}
+use Rattle.soundness.specs.Paragraph.{Sized, Link, Links, Paragraph}
+use Rattle.soundness.proofs.Exact.{paragraph}
 use Rattle.image_parts.specs.Layout.{Layout, current, word, noLink, lengthAt, lengthSize, restSize}
 
 -- the fields of a layout's own numbers can hold them, and a link's bytes the number of each record

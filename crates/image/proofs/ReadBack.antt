@@ -15,7 +15,7 @@ use Rattle.rules.specs.Rules.{sizeLists}
 use Rattle.state.specs.State.{arrays}
 use Rattle.state.specs.declared.MemoryAllocator.{MemoryAllocator}
 use Rattle.state.proofs.States.{by-tab}
-use Rattle.sound.specs.Paragraph.{Link}
+use Rattle.soundness.specs.Paragraph.{Link}
 use Rattle.bytes_be.specs.Numbers.{be, number}
 use Rattle.bytes_be.proofs.Laws.{length-be, number-be}
 use Rattle.image_parts.specs.Layout.{Layout, word, noLink, lengthAt, lengthSize, totalAt, firstAt, headsAt, recordsAt, endAt, enabledAt, linksAt, recordSize, imageSize, restSize}

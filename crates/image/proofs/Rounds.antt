@@ -12,8 +12,8 @@ use Rattle.state.specs.Sound.{SoundState}
 use Rattle.state.specs.declared.MemoryAllocator.{MemoryAllocator}
 use Rattle.lists.specs.Links.{none}
 use Rattle.sound.specs.IsSound.{isSound}
-use Rattle.sound.specs.Paragraph.{Sized}
-use Rattle.sound.proofs.Exact.{sound-passes, passes-sound}
+use Rattle.soundness.specs.Paragraph.{Sized}
+use Rattle.soundness.proofs.Exact.{sound-passes, passes-sound}
 use Rattle.bytes_be.specs.Numbers.{Bytes}
 use Rattle.image_parts.specs.Layout.{Layout, imageSize}
 use Rattle.image.specs.Writing.{imageOf, numberOf, written, writingOf}

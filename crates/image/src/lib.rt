@@ -6,6 +6,7 @@ mod write;
 
 pub use read::read_image;
 pub use write::write_image;
+pub use write::write_state;
 
 pub enum ImageAnswer {
     Done,

@@ -17,7 +17,7 @@ ghost use lib.ListN.{length, take};
 ghost use Rattle.image_parts.specs.Layout.{current, recordsAt, imageSize};
 ghost use Rattle.state.specs.Shown.{pool};
 ghost use Rattle.image_parts.specs.Written.{joined, recordBytes};
-ghost use Rattle.image.specs.Writing.{entryOf, written, writingOf};
+ghost use Rattle.image.specs.Writing.{entryOf, imageOf, written, writingOf};
 
 // The records, each in its own part of the image.
 fn write_records(
@@ -48,6 +48,32 @@ fn write_records(
     }
 }
 
+// The image of any state, over a slice of its length.
+pub fn write_state(s: MemoryAllocator, image: &mut [u8])
+    requires { ⌜ length (now image) ≡ imageSize current ⌝ }
+    ensures { λ _. ⌜ now (image .exit) ≡ imageOf current s ⌝ }
+{
+    let heads = s.free_list;
+    let start = s.start;
+    let end = s.end;
+    let enabled = s.enabled;
+    let previous = s.previous;
+    let next = s.next;
+    let lprev = s.list_prev;
+    let lnext = s.list_next;
+    write_head(&mut image[0..RECORDS], s.free_size, s.first_entry, &heads);
+    write_records(
+        image,
+        &start,
+        &end,
+        &enabled,
+        &previous,
+        &next,
+        &lprev,
+        &lnext,
+    );
+}
+
 // The image of a sound state over a slice of its length; else nothing changes.
 pub fn write_image(s: MemoryAllocator, image: &mut [u8]) -> ImageAnswer
     ensures { λ r. ⌜ written r (now (image .exit)) ≡ writingOf current s (now (image .entry)) ⌝ }
@@ -56,25 +82,7 @@ pub fn write_image(s: MemoryAllocator, image: &mut [u8]) -> ImageAnswer
         return ImageAnswer::InvalidEntry;
     }
     if is_sound(s) {
-        let heads = s.free_list;
-        let start = s.start;
-        let end = s.end;
-        let enabled = s.enabled;
-        let previous = s.previous;
-        let next = s.next;
-        let lprev = s.list_prev;
-        let lnext = s.list_next;
-        write_head(&mut image[0..RECORDS], s.free_size, s.first_entry, &heads);
-        write_records(
-            image,
-            &start,
-            &end,
-            &enabled,
-            &previous,
-            &next,
-            &lprev,
-            &lnext,
-        );
+        write_state(s, image);
         return ImageAnswer::Done;
     }
     ImageAnswer::InvalidEntry

@@ -1,4 +1,3 @@
-// The lines of the script program: where a line ends, the call that it says, and the text of an answer.
+// The lines of the script program: where a line ends, and the call that it says.
 pub mod find;
 pub mod parse;
-pub mod print;

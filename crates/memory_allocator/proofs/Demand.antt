@@ -6,7 +6,7 @@ use mathlib.Core.Logic.{_≢_}
 use mathlib.Core.Path.{_≡_, refl, sym, ap, _∙_, subst}
 use lib.Dec.{T}
 use Rattle.lists.specs.Links.{none}
-use Rattle.rules.specs.Rules.{top, size, Book, empty, span, listing, freeAt, Answer, Call, Free, Allocate, Reserve, step, voucher, frees, covers, lastCovering, said, count, back, tally}
+use Rattle.rules.specs.Rules.{top, size, Book, empty, span, listing, freeAt, Answer, Call, step, voucher, frees, covers, lastCovering, said, count, back, tally}
 use Rattle.rules.specs.Sound.{Sound}
 use Rattle.laws.proofs.Kept.{empty-sound}
 use Rattle.laws.proofs.Outcomes.{Outcome, refusal, took, gave, outcome}
@@ -17,11 +17,11 @@ use Rattle.state.specs.declared.MemoryAllocator.{MemoryAllocator}
 use Rattle.state.proofs.States.{state-holds}
 use Rattle.state.proofs.Book.{book-back, holds-sound}
 use Rattle.sound.specs.IsSound.{isSound}
-use Rattle.sound.specs.Paragraph.{Sized}
-use Rattle.sound.proofs.Exact.{passes-sound}
+use Rattle.soundness.specs.Paragraph.{Sized}
+use Rattle.soundness.proofs.Exact.{passes-sound}
 use Rattle.calls.specs.Answers.{numberOf, addressOf}
-use Rattle.memory_allocator.specs.Promises.{judged, held}
-use Rattle.memory_allocator.specs.Histories.{made, after, voucherOf, vouchers, freeIn}
+use Rattle.memory_allocator.specs.Promises.{made, judged, held}
+use Rattle.memory_allocator.specs.Histories.{after, voucherOf, vouchers, freeIn}
 use Rattle.memory_allocator.specs.declared.Outcome as result
 use Rattle.memory_allocator.proofs.Steps.{made-held, made-voucher, after-run, vouchers-trail}
 
@@ -110,19 +110,10 @@ refused-book n b c _ (took x r f h) d = absurd (d refl)
 refused-book n b c _ (gave f h) d = absurd (d refl)
 
 module _ (n : ℕ) (small : n ≤ none) (s : MemoryAllocator) (c : Call) where
-  made-judged : made n s c ≡ judged n (step n c) s
-  unfolding step
-  made-judged = go c
-    where
-      go : (d : Call) → made n s d ≡ judged n (step n d) s
-      go (Free a z) = refl
-      go (Allocate z o) = refl
-      go (Reserve a z o) = refl
-
   -- A refused call hands back the identical state, whatever the state and the numbers.
   pub refused-same : Sized n s → numberOf (made n s c .answer) ≢ 0 → made n s c .state ≡ s
   unfolding judged
-  refused-same z d = ap (λ (r : result.Outcome). r .state) made-judged ∙ go (isSound n s) refl (λ e. d (ap (λ (r : result.Outcome). numberOf (r .answer)) made-judged ∙ e))
+  refused-same z d = go (isSound n s) refl d
     where
       w : Answer
       w = step n c (bookOf n s)

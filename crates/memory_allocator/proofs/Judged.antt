@@ -10,8 +10,8 @@ use Rattle.state.specs.declared.MemoryAllocator.{MemoryAllocator}
 use Rattle.state.proofs.States.{holds-state}
 use Rattle.state.proofs.Book.{sound-holds}
 use Rattle.sound.specs.IsSound.{isSound}
-use Rattle.sound.specs.Paragraph.{Sized}
-use Rattle.sound.proofs.Exact.{passes-sound}
+use Rattle.soundness.specs.Paragraph.{Sized}
+use Rattle.soundness.proofs.Exact.{passes-sound}
 use Rattle.calls.specs.Answers.{Answers, numberOf, addressOf}
 use Rattle.calls.specs.declared.Answer as answer
 use Rattle.calls.specs.declared.Answer.the-variants.{Accepted, NoEntry, InvalidEntry, NoMemory, InvalidRequest}

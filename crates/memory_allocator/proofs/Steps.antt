@@ -6,7 +6,7 @@ use mathlib.Core.List.{List, [], _∷_}
 use mathlib.Core.Path.{_≡_, refl, ap, _∙_}
 use native.Mathlib.Omega.{arith}
 use Rattle.lists.specs.Links.{none}
-use Rattle.rules.specs.Rules.{Book, Answer, Call, Free, Allocate, Reserve, step, run, voucher, trail}
+use Rattle.rules.specs.Rules.{Book, Answer, Call, step, run, voucher, trail}
 use Rattle.rules.specs.Sound.{Sound}
 use Rattle.laws.proofs.Outcomes.{Outcome, refusal, took, gave, outcome}
 use Rattle.laws.proofs.History.{step-sound}
@@ -14,10 +14,10 @@ use Rattle.state.specs.State.{stateOf}
 use Rattle.state.proofs.States.{state-holds}
 use Rattle.state.proofs.Book.{book-back, holds-sound}
 use Rattle.sound.specs.IsSound.{isSound}
-use Rattle.sound.proofs.Exact.{sound-passes}
+use Rattle.soundness.proofs.Exact.{sound-passes}
 use Rattle.calls.specs.Answers.{numberOf, addressOf}
-use Rattle.memory_allocator.specs.Promises.{answerOf, held, judged}
-use Rattle.memory_allocator.specs.Histories.{made, after, voucherOf, vouchers}
+use Rattle.memory_allocator.specs.Promises.{answerOf, held, judged, made}
+use Rattle.memory_allocator.specs.Histories.{after, voucherOf, vouchers}
 use Rattle.memory_allocator.specs.declared.Outcome as result
 
 -- the numbers and addresses of the rules' answers are kept
@@ -43,10 +43,7 @@ module _ (n : ℕ) (small : n ≤ none) where
   judged-held rule b s = rw (stands b s) (ap (λ (x : Book). held n (rule x)) (book-back n small b s))
 
   pub made-held : (b : Book) (c : Call) → Sound n b → made n (stateOf n b) c ≡ held n (step n c b)
-  unfolding step
-  made-held b (Free a z) s = judged-held _ b s
-  made-held b (Allocate z o) s = judged-held _ b s
-  made-held b (Reserve a z o) s = judged-held _ b s
+  made-held b c s = judged-held (step n c) b s
 
   pub made-voucher : (b : Book) (c : Call) → Sound n b → voucherOf c (made n (stateOf n b) c) ≡ voucher c (step n c b)
   made-voucher b c s =

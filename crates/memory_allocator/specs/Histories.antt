@@ -2,18 +2,12 @@
 use Prim.Native.Nat.{ℕ}
 use mathlib.Core.Bool.{Bool}
 use mathlib.Core.List.{List, [], _∷_}
-use Rattle.rules.specs.Rules.{Call, Free, Allocate, Reserve, Voucher, freeAt}
+use Rattle.rules.specs.Rules.{Call, Voucher, freeAt}
 use Rattle.state.specs.Sound.{bookOf}
 use Rattle.state.specs.declared.MemoryAllocator.{MemoryAllocator}
 use Rattle.calls.specs.Answers.{numberOf, addressOf}
-use Rattle.memory_allocator.specs.Promises.{allocateOf, reserveOf, freeOf}
+use Rattle.memory_allocator.specs.Promises.{made}
 use Rattle.memory_allocator.specs.declared.Outcome.{Outcome}
-
--- what a call answers and leaves
-abbrev pub made : ℕ → MemoryAllocator → Call → Outcome
-made n s (Free a z) = freeOf n s a z
-made n s (Allocate z o) = allocateOf n s z o
-made n s (Reserve a z o) = reserveOf n s a z o
 
 -- the state that a list of calls leaves
 unfoldable pub after : ℕ → MemoryAllocator → List Call → MemoryAllocator

@@ -28,6 +28,11 @@ held n w = record { answer = answerOf (w .number) (w .address); state = stateOf 
 unfoldable pub judged : ℕ → (Book → rules.Answer) → MemoryAllocator → Outcome
 judged n rule s = cond (isSound n s) (held n (rule (bookOf n s))) (record { answer = InvalidEntry; state = s })
 
+-- any call
+abbrev pub made : ℕ → MemoryAllocator → rules.Call → Outcome
+made n s c = judged n (rules.step n c) s
+
+-- each of the three
 abbrev pub allocateOf : ℕ → MemoryAllocator → ℕ → ℕ → Outcome
 allocateOf n s z o = judged n (rules.allocate n z o) s
 

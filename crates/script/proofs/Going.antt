@@ -1,15 +1,15 @@
 -- A chunk that is heard part by part, while the answers are written. Assumes nothing.
-use mathlib.Core.Path.{_≡_, refl, sym, ap, _∙_}
+use mathlib.Core.Path.{_≡_, refl, sym, _∙_}
 use mathlib.Core.Bool.{Bool, true, false}
-use mathlib.Core.List.{List, _++_}
-use Prim.Native.Nat.{ℕ, _+_, _-_, _<_, _≤_}
+use mathlib.Core.List.{List}
+use Prim.Native.Nat.{ℕ, _+_, _-_, _≤_}
 use native.Mathlib.Omega.{arith}
 use borrow.Author.Tests.{leb-true, le-leb}
 use lib.ListN.{length, take, drop, length-drop}
 use lib.Seq.{take-all}
 use Rattle.state.specs.Shown.{pool}
 use Rattle.answering.specs.Script.{room, roomy}
-use Rattle.chunks.specs.Input.{Told, heard, between, Holds, Shows, Ready, Hears}
+use Rattle.chunks.specs.Input.{Told, heard, between, Ready, Hears}
 use Rattle.chunks.specs.declared.Reading.{Reading}
 use Rattle.chunks.proofs.Hearing.{told, heard-append, heard-text, between-split}
 use Rattle.chunks.proofs.Answering.{roomy-within}

@@ -2,7 +2,7 @@
 use Prim.Native.Nat.{ℕ, _+_, _-_, _<_, _≤_}
 use mathlib.Core.Bool.{true}
 use mathlib.Core.Logic.{_≢_, _⊎_, inl, inr, ⊎-elim}
-use mathlib.Core.List.{List, [], _∷_, _++_}
+use mathlib.Core.List.{List, _∷_, _++_}
 use mathlib.Core.Path.{_≡_, refl, sym, ap, _∙_}
 use lib.ListN.{length, getD, set, length-set}
 use lib.Seq.{getD-set-same, getD-set-other}
@@ -10,7 +10,6 @@ use lib.Dec.{eqb}
 use native.Mathlib.Omega.{arith}
 use borrow.Author.Tests.{eq-eqb, ne-eqb}
 use Rattle.lists.specs.Links.{pick, upd, none, head, after, Listed, has}
-use Rattle.lists.specs.Links as links
 use Rattle.lists.specs.Threads.{Threads, cut, Between}
 use Rattle.lists.proofs.Laws.{same?, head-without, head-put, fresh-unless, listed-left, listed-widen}
 use Rattle.lists.proofs.Threading.{stored, same-lists, rekey}

@@ -5,17 +5,3 @@ pub mod Records
 pub mod Steps
 pub mod Chain
 pub mod Whole
-pub mod Orders
-pub mod Joined
-pub mod Walked
-pub mod BothWalks
-pub mod Family
-pub mod Sums
-pub mod Clauses
-pub mod Passes
-pub mod Finds
-pub mod Threaded
-pub mod Holding
-pub mod Held
-pub mod Exact
-pub mod Owned

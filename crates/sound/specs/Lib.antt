@@ -1,4 +1,3 @@
 -- What the contracts cite of the check.
 pub mod Walk
 pub mod IsSound
-pub mod Paragraph

@@ -12,7 +12,6 @@ use native.Mathlib.Omega.{arith}
 use native.Mathlib.Nat.{zero-add}
 use borrow.Author.Tests.{eq-eqb, ne-eqb}
 use Rattle.lists.specs.Links.{before, after, tab, Listed}
-use Rattle.lists.specs.Links as links
 use Rattle.lists.proofs.Laws.{same?, true≢false, length-tab, getD-tab}
 use Rattle.rules.specs.Rules.{Range, range, Book, find, listNumber, ofList}
 use Rattle.rules.specs.Sound.{In, Pairwise}

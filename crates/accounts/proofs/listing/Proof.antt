@@ -2,7 +2,7 @@ use borrow.Author.Needs.{needs}
 use mathlib.Core.Path.{sym, _∙_}
 use lib.Dec.{lit≤}
 use Rattle.state.specs.Shown.{pool}
-use Rattle.sound.proofs.Owned.{owned-sized}
+use Rattle.soundness.proofs.Owned.{owned-sized}
 use Rattle.accounts.proofs.Shows.{ordered, unsound-lists, sound-lists}
 use Rattle.accounts.proofs.listing.Statement.{statement}
 use Rattle.accounts.proofs.listing.Tie as tie

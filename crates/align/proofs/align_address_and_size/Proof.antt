@@ -4,10 +4,6 @@ use Rattle.laws.proofs.Outcomes.{down-le, le-up}
 use borrow.Author.Needs.{needs}
 use Rattle.align.proofs.align_address_and_size.Statement.{statement}
 use Rattle.align.proofs.align_address_and_size.Tie as tie
-use Rattle.align.proofs.align_address_and_size.Reads as reads
-use Rattle.align.proofs.align_address_and_size.Lts as lts
-use Rattle.align.proofs.align_down.Reads as align-down-reads
-use Rattle.align.proofs.align_up.Reads as align-up-reads
 
 align-down-requires : tie.Need-align-down-requires
 align-down-requires c κs = search needs

@@ -3,8 +3,6 @@ use Rattle.align.proofs.Rounding.{shifted}
 use borrow.Author.Needs.{needs}
 use Rattle.align.proofs.align_down.Statement.{statement}
 use Rattle.align.proofs.align_down.Tie as tie
-use Rattle.align.proofs.align_down.Reads as reads
-use Rattle.align.proofs.align_down.Lts as lts
 
 shr-result : tie.Need-shr-result
 shr-result c = search needs

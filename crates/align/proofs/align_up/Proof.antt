@@ -4,9 +4,6 @@ use Rattle.align.proofs.Rounding.{shift-is, power-pos, power-top, round
 use borrow.Author.Needs.{needs}
 use Rattle.align.proofs.align_up.Statement.{statement}
 use Rattle.align.proofs.align_up.Tie as tie
-use Rattle.align.proofs.align_up.Reads as reads
-use Rattle.align.proofs.align_up.Lts as lts
-use Rattle.align.proofs.align_down.Reads as align-down-reads
 
 shl-m : tie.Need-shl-m
 shl-m c = search needs

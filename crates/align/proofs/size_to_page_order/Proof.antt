@@ -8,8 +8,6 @@ use borrow.Author.Tests.{le-leb, lt-leb}
 use Rattle.rules.specs.Rules.{listNumber, least}
 use Rattle.align.proofs.size_to_page_order.Statement.{statement}
 use Rattle.align.proofs.size_to_page_order.Tie as tie
-use Rattle.align.proofs.size_to_page_order.Reads as reads
-use Rattle.align.proofs.size_to_page_order.Lts as lts
 
 opened : (z : ℕ) → listNumber z ≡ least 11 0 z
 unfolding listNumber

@@ -3,7 +3,7 @@ use Prim.Native.Nat.{_+_}
 use native.Mathlib.Omega.{arith}
 use borrow.Author.Tests.{lt-leb}
 use Rattle.state.specs.Shown.{pool}
-use Rattle.lines.proofs.Buffers.{same-room}
+use Rattle.texts.proofs.Buffers.{same-room}
 use Rattle.answering.specs.Script.{room}
 use Rattle.answering.proofs.has_room.Statement.{statement}
 use Rattle.answering.proofs.has_room.Tie as tie

@@ -3,7 +3,7 @@ use mathlib.Core.Path.{refl}
 use native.Mathlib.Omega.{arith}
 use lib.Dec.{lit≤}
 use Rattle.state.specs.Shown.{pool}
-use Rattle.sound.proofs.Owned.{owned-sized}
+use Rattle.soundness.proofs.Owned.{owned-sized}
 use Rattle.answering.proofs.Listings.{refused-puts, is-sound, total-is, chain-few, count-is, table-puts}
 use Rattle.answering.proofs.put_listing.Statement.{statement}
 use Rattle.answering.proofs.put_listing.Tie as tie

@@ -1,5 +1,4 @@
 use mathlib.Core.Path.{ap, _∙_}
-use lib.Dec.{lit≤}
 use lib.IntN.{ℤ}
 use mir.Syntax.{w64}
 use mir.Facts.{toZ-ofZ}
@@ -17,7 +16,7 @@ new-requires : tie.Need-new-requires
 new-requires c κs = search needs
 
 finish-call-requires : tie.Need-finish-call-requires
-finish-call-requires c κs = rw (c .before .new .ensures) (begins current _ (lit≤ tt) (c .before .before .if1 .left))
+finish-call-requires c κs = rw (c .before .new .ensures) (begins current _ (c .before .before .if1 .left))
 
 same-length : tie.Need-same-length
 same-length c = search needs

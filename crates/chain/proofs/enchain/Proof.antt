@@ -6,8 +6,6 @@ use Rattle.chain.proofs.Chain.{enter-between, entered}
 use borrow.Author.Needs.{needs}
 use Rattle.chain.proofs.enchain.Statement.{statement}
 use Rattle.chain.proofs.enchain.Tie as tie
-use Rattle.chain.proofs.enchain.Reads as reads
-use Rattle.chain.proofs.enchain.Lts as lts
 
 choose-requires : tie.Need-choose-requires
 choose-requires c κs = search needs

@@ -5,8 +5,6 @@ use Rattle.chain.proofs.Chain.{unchained}
 use borrow.Author.Needs.{needs}
 use Rattle.chain.proofs.unchain.Statement.{statement}
 use Rattle.chain.proofs.unchain.Tie as tie
-use Rattle.chain.proofs.unchain.Reads as reads
-use Rattle.chain.proofs.unchain.Lts as lts
 
 link-of-requires : tie.Need-link-of-requires
 link-of-requires c κs = search needs

@@ -10,8 +10,6 @@ use Rattle.state.specs.Shown.{pool, Marked}
 use Rattle.entries.proofs.Unused.{marked-any, lowest-skip, lowest-stop, lowest-end}
 use Rattle.entries.proofs.create_memory_entry.Statement.{statement}
 use Rattle.entries.proofs.create_memory_entry.Tie as tie
-use Rattle.entries.proofs.create_memory_entry.Reads as reads
-use Rattle.entries.proofs.create_memory_entry.Lts as lts
 
 abbrev Inv-loop : tie.InvT-loop
 Inv-loop enabled i₀ i = (i ≤ pool) × ((l : List Range) → Marked pool l enabled → lowest pool 0 l ≡ lowest (pool - i) i l)

@@ -4,8 +4,6 @@ use Rattle.entries.proofs.Books.{dropped, drop-removes, drop-below, dro
 use borrow.Author.Needs.{needs}
 use Rattle.entries.proofs.delete_entry.Statement.{statement}
 use Rattle.entries.proofs.delete_entry.Tie as tie
-use Rattle.entries.proofs.delete_entry.Reads as reads
-use Rattle.entries.proofs.delete_entry.Lts as lts
 
 unchain-entry-from-free-list-requires : tie.Need-unchain-entry-from-free-list-requires
 unchain-entry-from-free-list-requires c κs =

@@ -5,8 +5,6 @@ use Rattle.entries.proofs.Books.{inserted, insert-enters, insert-at, in
 use borrow.Author.Needs.{needs}
 use Rattle.entries.proofs.insert.Statement.{statement}
 use Rattle.entries.proofs.insert.Tie as tie
-use Rattle.entries.proofs.insert.Reads as reads
-use Rattle.entries.proofs.insert.Lts as lts
 
 enchain-requires : tie.Need-enchain-requires
 enchain-requires c κs = search needs

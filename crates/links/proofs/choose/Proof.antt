@@ -1,8 +1,6 @@
 use borrow.Author.Tests.{eq-eqb, ne-eqb}
 use Rattle.links.proofs.choose.Statement.{statement}
 use Rattle.links.proofs.choose.Tie as tie
-use Rattle.links.proofs.choose.Reads as reads
-use Rattle.links.proofs.choose.Lts as lts
 
 returns : tie.Need-returns
 returns c = rw (eq-eqb _ _ (c .if1 .taken))

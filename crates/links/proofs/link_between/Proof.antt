@@ -4,8 +4,6 @@ use Rattle.state.specs.Shown.{pool}
 use borrow.Author.Needs.{needs}
 use Rattle.links.proofs.link_between.Statement.{statement}
 use Rattle.links.proofs.link_between.Tie as tie
-use Rattle.links.proofs.link_between.Reads as reads
-use Rattle.links.proofs.link_between.Lts as lts
 
 point-requires : tie.Need-point-requires
 point-requires c κs = search needs

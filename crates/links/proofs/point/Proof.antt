@@ -5,8 +5,6 @@ use lib.Seq.{set-out}
 use borrow.Author.Needs.{needs}
 use Rattle.links.proofs.point.Statement.{statement}
 use Rattle.links.proofs.point.Tie as tie
-use Rattle.links.proofs.point.Reads as reads
-use Rattle.links.proofs.point.Lts as lts
 
 cast-n : tie.Need-cast-n
 cast-n c = search needs

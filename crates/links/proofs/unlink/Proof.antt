@@ -4,8 +4,6 @@ use Rattle.state.specs.Shown.{pool}
 use borrow.Author.Needs.{needs}
 use Rattle.links.proofs.unlink.Statement.{statement}
 use Rattle.links.proofs.unlink.Tie as tie
-use Rattle.links.proofs.unlink.Reads as reads
-use Rattle.links.proofs.unlink.Lts as lts
 
 link-of-requires : tie.Need-link-of-requires
 link-of-requires c κs = search needs

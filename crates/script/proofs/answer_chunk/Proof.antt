@@ -1,5 +1,4 @@
 use borrow.Author.Tests.{ltb-true, ltb-false}
-use mathlib.Core.Bool.{Bool}
 use Prim.Native.Nat.{_-_}
 use native.Mathlib.Omega.{arith}
 use lib.ListN.{length}

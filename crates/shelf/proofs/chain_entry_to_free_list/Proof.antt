@@ -8,8 +8,6 @@ use Rattle.shelf.proofs.Shelf.{runs, placed, between}
 use borrow.Author.Needs.{needs}
 use Rattle.shelf.proofs.chain_entry_to_free_list.Statement.{statement}
 use Rattle.shelf.proofs.chain_entry_to_free_list.Tie as tie
-use Rattle.shelf.proofs.chain_entry_to_free_list.Reads as reads
-use Rattle.shelf.proofs.chain_entry_to_free_list.Lts as lts
 
 get-size-requires : tie.Need-get-size-requires
 get-size-requires c κs = search needs

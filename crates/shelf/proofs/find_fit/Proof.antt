@@ -18,8 +18,6 @@ use Rattle.shelf.proofs.Shelf.{runs}
 use Rattle.shelf.proofs.Fits.{mark, mark-off, list-passed, list-hit, list-end, walk-all, from-own}
 use Rattle.shelf.proofs.find_fit.Statement.{statement}
 use Rattle.shelf.proofs.find_fit.Tie as tie
-use Rattle.shelf.proofs.find_fit.Reads as reads
-use Rattle.shelf.proofs.find_fit.Lts as lts
 
 abbrev Inv-loop : tie.InvT-loop
 Inv-loop start end next heads size order hit₀ k cur₀ hit cur = (hit ≡ Nothing) × ((l : List Range) (prev : List ℕ) → Shelved pool l start end prev next heads → (b : ℕ) × Walked (mark (fits size order)) (ofList k l) 1 b (cur .0))

@@ -10,8 +10,6 @@ use Rattle.state.specs.Shown.{pool, numbers, Runs, Walked}
 use Rattle.state.proofs.Walks.{walk-starts, Stands, stands, stands-good, walk-stops, walk-on, walk-less, walk-ends}
 use Rattle.shelf.proofs.find_gap.Statement.{statement}
 use Rattle.shelf.proofs.find_gap.Tie as tie
-use Rattle.shelf.proofs.find_gap.Reads as reads
-use Rattle.shelf.proofs.find_gap.Lts as lts
 
 abbrev Inv-loop : tie.InvT-loop
 Inv-loop start end next s before₀ cur₀ before cur = (l : List Range) → Runs pool l start end next → cur₀ .0 ≡ head (numbers l) → Walked size l s (before .0) (cur .0)

@@ -6,10 +6,6 @@ use Rattle.shelf.proofs.Fits.{fits-left}
 use borrow.Author.Needs.{needs}
 use Rattle.shelf.proofs.fits_at.Statement.{statement}
 use Rattle.shelf.proofs.fits_at.Tie as tie
-use Rattle.shelf.proofs.fits_at.Reads as reads
-use Rattle.shelf.proofs.fits_at.Lts as lts
-use Rattle.align.proofs.align_address_and_available_size.Reads as align-address-and-available-size-reads
-use Rattle.shelf.proofs.get_size.Reads as get-size-reads
 
 get-size-requires : tie.Need-get-size-requires
 get-size-requires c κs = search needs

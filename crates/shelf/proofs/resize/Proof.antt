@@ -6,8 +6,6 @@ use Rattle.shelf.proofs.Shelf.{resize-places, resized}
 use borrow.Author.Needs.{needs}
 use Rattle.shelf.proofs.resize.Statement.{statement}
 use Rattle.shelf.proofs.resize.Tie as tie
-use Rattle.shelf.proofs.resize.Reads as reads
-use Rattle.shelf.proofs.resize.Lts as lts
 
 unchain-entry-from-free-list-requires : tie.Need-unchain-entry-from-free-list-requires
 unchain-entry-from-free-list-requires c κs = search needs

@@ -6,8 +6,6 @@ use Rattle.shelf.proofs.Shelf.{removed, in-key}
 use borrow.Author.Needs.{needs}
 use Rattle.shelf.proofs.unchain_entry_from_free_list.Statement.{statement}
 use Rattle.shelf.proofs.unchain_entry_from_free_list.Tie as tie
-use Rattle.shelf.proofs.unchain_entry_from_free_list.Reads as reads
-use Rattle.shelf.proofs.unchain_entry_from_free_list.Lts as lts
 
 get-size-requires : tie.Need-get-size-requires
 get-size-requires c κs = c .pre .1 .shelved .good _ (c .pre .1 .member)

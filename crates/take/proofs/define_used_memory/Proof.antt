@@ -8,8 +8,6 @@ use Rattle.entries.proofs.Unused.{unused-is, slot-full, slot-at}
 use borrow.Author.Needs.{needs}
 use Rattle.take.proofs.define_used_memory.Statement.{statement}
 use Rattle.take.proofs.define_used_memory.Tie as tie
-use Rattle.take.proofs.define_used_memory.Reads as reads
-use Rattle.take.proofs.define_used_memory.Lts as lts
 
 cast-n : tie.Need-cast-n
 cast-n c = search needs

@@ -1,6 +1,6 @@
 use native.Mathlib.Omega.{arith}
 use borrow.Author.Needs.{needs}
-use Rattle.lines.proofs.Buffers.{at-most-48}
+use Rattle.texts.proofs.Buffers.{at-most-48}
 use Rattle.answering.proofs.print.put_row.Statement.{statement}
 use Rattle.answering.proofs.print.put_row.Tie as tie
 

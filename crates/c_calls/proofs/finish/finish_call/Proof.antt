@@ -19,8 +19,8 @@ number c = toZ-ofZ {w = w64} (record { sfits = c .signed-number .ok }) ∙ c .si
 returns : tie.Need-returns
 returns c = refusal-leaves current _ _ _ (number (c .before)) (c .if1 .taken)
 
-write-image-requires : tie.Need-write-image-requires
-write-image-requires c κs = search needs
+write-state-requires : tie.Need-write-state-requires
+write-state-requires c κs = search needs
 
 same-length : tie.Need-same-length
 same-length c = search needs
@@ -28,8 +28,8 @@ same-length c = search needs
 returns-2 : tie.Need-returns-2
 returns-2 c =
     let tested = c .before .before .before .before in
-    accepted-leaves current _ _ _ (number (tested .before)) (c .before .before .write-image .result) _ (tested .if1 .left) (tested .before .before .before .pre) (c .before .before .write-image .ensures)
+    accepted-leaves current _ _ _ (number (tested .before)) _ (tested .if1 .left) (c .before .before .write-state .ensures)
 
 pub finish-call-spec : {M : Type 1} → statement M
 finish-call-spec =
-    tie.close (tie.spec signed-number-requires returns write-image-requires same-length returns-2)
+    tie.close (tie.spec signed-number-requires returns write-state-requires same-length returns-2)

@@ -1,0 +1,26 @@
+// A request served on the state that an image holds.
+use crate::finish::INVALID_ENTRY;
+use crate::finish::finish_call;
+use image::ImageAnswer;
+use image::read_image;
+use memory_allocator::serve_sound;
+use requests::Request;
+ghost use mathlib.Core.Path.{_≡_};
+ghost use Rattle.image_parts.specs.Layout.{current};
+ghost use Rattle.requests.specs.Requests.{callOf};
+ghost use Rattle.c_calls.specs.CCalls.{returned, callOver};
+
+// An image that holds no sound state stays as it is. Reading has checked the state; nothing checks it again.
+pub fn call_over(image: &mut [u8], request: Request) -> i64
+    ensures { λ r. ⌜ returned r (now (image .exit)) ≡ callOver current (callOf request) (now (image .entry)) ⌝ }
+{
+    let reading = read_image(&image[..]);
+    let readable = reading.answer;
+    match readable {
+        ImageAnswer::Done => {
+            let outcome = serve_sound(reading.state, request);
+            finish_call(outcome, image)
+        }
+        ImageAnswer::InvalidEntry => INVALID_ENTRY,
+    }
+}

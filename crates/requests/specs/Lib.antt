@@ -1,0 +1,2 @@
+-- What the contract of a served request cites.
+pub mod Requests

@@ -1,0 +1,2 @@
+-- Document 01 on a sound state.
+pub mod Paragraph

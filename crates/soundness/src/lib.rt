@@ -1,0 +1,1 @@
+// What the check of a state means, clause by clause: specs/ and proofs/.
