@@ -10,7 +10,7 @@ use Rattle.laws.proofs.Bytes.{total-le}
 use Rattle.state.specs.Sound.{bookOf, SoundState}
 use Rattle.state.proofs.Book.{sound-holds}
 use Rattle.state.specs.declared.MemoryAllocator.{MemoryAllocator}
-use Rattle.sound.specs.IsSound.{used}
+use Rattle.sound_records.specs.Records.{used}
 use Rattle.soundness.specs.Paragraph.{Sized, Link, Links, Paragraph}
 use Rattle.soundness.proofs.Exact.{paragraph}
 use Rattle.image_parts.specs.Layout.{Layout, current, word, noLink, lengthAt, lengthSize, restSize}

@@ -1,44 +1,17 @@
--- The size lists one after another, and the whole check.
-use Prim.Native.Nat.{ℕ, zero, suc, _+_}
+-- The whole check.
+use Prim.Native.Nat.{ℕ}
 use mathlib.Core.Bool.{Bool, true, false, cond, _&&_}
 use mathlib.Core.Logic.{_≢_}
-use mathlib.Core.List.{List}
 use mathlib.Core.Path.{_≡_, refl, sym}
-use native.Mathlib.Numerals.{add-one}
-use lib.Dec.{eqb}
-use lib.ListN.{getD}
-use Rattle.lists.specs.Links.{none}
 use Rattle.lists.proofs.Laws.{true≢false}
 use Rattle.lists.proofs.Check.{count}
 use Rattle.rules.specs.Rules.{sizeLists}
 use Rattle.state.specs.declared.MemoryAllocator.{MemoryAllocator}
-use Rattle.sound.specs.Walk.{onward}
-use Rattle.sound.specs.IsSound.{all, recordAt, used, records, listWalk, listsOk, isSound, recordsIn, chainIn, listsIn}
-use Rattle.sound.specs.declared.Tally.{Tally}
-use Rattle.sound.specs.declared.Tally.the-variants.{Of, Broken}
-use Rattle.sound.proofs.Tests.{and-true}
-
--- what a test of what is left tells
-pub onward-told : (p : ℕ → Bool) (t : Tally) → onward p t ≡ true → (f : ℕ) × (t ≡ Of f) × (p f ≡ true)
-onward-told p (Of f) h = (f, refl, h)
-onward-told p Broken h = true≢false (sym h)
-
-module _ (n : ℕ) (heads start end : List ℕ) (enabled : List Bool) (lprev lnext : List ℕ) where
-  abbrev from : ℕ → ℕ → ℕ → Bool
-  from m k c = listsOk n heads start end enabled lprev lnext m k c
-
-  pub lists-done : (m k c : ℕ) → m ≡ 0 → from m k c ≡ eqb c 0
-  unfolding listsOk
-  lists-done m k c e = rw e
-
-  pub lists-broken : (m k c : ℕ) → m ≢ 0 → listWalk n start end enabled lprev lnext k c none 0 (getD heads k 0) ≡ Broken → from m k c ≡ false
-  unfolding listsOk
-  lists-broken zero k c d h = absurd (d refl)
-  lists-broken (suc m) k c d h = rw h
-
-  pub lists-go : (m m′ k c f : ℕ) → m ≡ suc m′ → listWalk n start end enabled lprev lnext k c none 0 (getD heads k 0) ≡ Of f → from m k c ≡ from m′ (k + 1) f
-  unfolding listsOk
-  lists-go m m′ k c f e h = rw (e, h, add-one k)
+use Rattle.sound_links.specs.Walk.{onward}
+use Rattle.sound_records.specs.Records.{all, recordAt, used, records}
+use Rattle.sound.specs.IsSound.{isSound, recordsIn, chainIn, listsIn}
+use Rattle.sound_records.specs.declared.Tally.the-variants.{Of, Broken}
+use Rattle.sound_records.proofs.Tests.{and-true}
 
 module _ (n : ℕ) (s : MemoryAllocator) where
   pub sound-broken : recordsIn n s ≡ Broken → isSound n s ≡ false

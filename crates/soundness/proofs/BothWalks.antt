@@ -9,9 +9,10 @@ use lib.ListN.{getD}
 use Rattle.lists.specs.Links.{none, has, Linked}
 use Rattle.lists.proofs.Check.{linked-after, linked-before}
 use Rattle.state.specs.Shown.{keyAt}
-use Rattle.sound.specs.IsSound.{used, Proper, sizeAt, chainStep, listStep}
+use Rattle.sound_records.specs.Records.{used, Proper}
+use Rattle.sound_links.specs.Walks.{sizeAt, chainStep, listStep}
 use Rattle.soundness.specs.Paragraph.{Link, Meets}
-use Rattle.sound.proofs.Steps.{follows-true, true-follows, chain-true, true-chain, list-true, true-list}
+use Rattle.sound_links.proofs.Steps.{follows-true, true-follows, chain-true, true-chain, list-true, true-list}
 use Rattle.soundness.proofs.Orders.{leads-head, leads-linked, head-link, after-link, before-link}
 use Rattle.soundness.proofs.Walked.{Tests}
 

@@ -11,8 +11,9 @@ use Rattle.lists.proofs.Check.{count}
 use Rattle.rules.specs.Rules.{sizeLists, sum}
 use Rattle.state.specs.Shown.{at}
 use Rattle.state.specs.declared.MemoryAllocator.{MemoryAllocator}
-use Rattle.sound.specs.Walk.{sumAlong}
-use Rattle.sound.specs.IsSound.{used, Proper, sizeAt}
+use Rattle.sound_links.specs.Walk.{sumAlong}
+use Rattle.sound_records.specs.Records.{used, Proper}
+use Rattle.sound_links.specs.Walks.{sizeAt}
 use Rattle.soundness.specs.Paragraph.{Sized, Links, Meets, Enabled, ByAddress, Fresh, Paragraph}
 use Rattle.soundness.proofs.BothWalks.{meets-first, meets-links}
 use Rattle.soundness.proofs.Family.{key, Row, key-lt, counted}

@@ -15,7 +15,7 @@ use Rattle.rules.specs.Rules.{sizeLists}
 use Rattle.laws.proofs.Shelf.{num-lt, list-number-mono}
 use Rattle.state.specs.Shown.{at, keyAt}
 use Rattle.state.specs.declared.MemoryAllocator.{MemoryAllocator}
-use Rattle.sound.specs.IsSound.{sizeAt}
+use Rattle.sound_links.specs.Walks.{sizeAt}
 use Rattle.soundness.specs.Paragraph.{Enabled, BySize, InOrder, Meets}
 use Rattle.soundness.proofs.Orders.{once-listed, count-length}
 use Rattle.soundness.proofs.Joined.{joined, joined-has, has-joined, joined-order}

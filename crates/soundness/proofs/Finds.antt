@@ -14,13 +14,16 @@ use Rattle.lists.proofs.Check.{count, covers, linked-listed, linked-after}
 use Rattle.rules.specs.Rules.{sizeLists, sum}
 use Rattle.state.specs.Shown.{at}
 use Rattle.state.specs.declared.MemoryAllocator.{MemoryAllocator}
-use Rattle.sound.specs.Walk.{sumAlong, onward}
-use Rattle.sound.specs.IsSound.{recordOk, all, recordAt, used, Proper, sizeAt, chainWalk, chainOk, chainStep, listStep, listWalk, listsOk, isSound, chainIn, listsIn}
+use Rattle.sound_links.specs.Walk.{sumAlong, onward}
+use Rattle.sound_records.specs.Records.{recordOk, all, recordAt, used, Proper}
+use Rattle.sound_links.specs.Walks.{sizeAt, chainWalk, chainOk, chainStep, listStep, listWalk, listsOk}
+use Rattle.sound.specs.IsSound.{isSound, chainIn, listsIn}
 use Rattle.soundness.specs.Paragraph.{Sized, Enabled, ByAddress, BySize, InOrder, Fresh, Paragraph}
-use Rattle.sound.specs.declared.Tally.the-variants.{Of}
-use Rattle.sound.proofs.Tests.{and-true}
-use Rattle.sound.proofs.Records.{all-at, ok-fresh, all-proper}
-use Rattle.sound.proofs.Whole.{onward-told, sound-told}
+use Rattle.sound_records.specs.declared.Tally.the-variants.{Of}
+use Rattle.sound_records.proofs.Tests.{and-true}
+use Rattle.sound_records.proofs.Records.{all-at, ok-fresh, all-proper}
+use Rattle.sound_links.proofs.Lists.{onward-told}
+use Rattle.sound.proofs.Whole.{sound-told}
 use Rattle.soundness.proofs.Orders.{leads-head, leads-linked, listed-once, once-listed}
 use Rattle.soundness.proofs.Walked.{Tests, Met, walk-meets, met-all}
 use Rattle.soundness.proofs.BothWalks.{chain-tests, list-tests}

@@ -15,7 +15,7 @@ use Rattle.state.specs.State.{Holds}
 use Rattle.state.specs.declared.MemoryAllocator.{MemoryAllocator}
 use Rattle.state.proofs.Walks.{in-has, has-in, in-fresh}
 use Rattle.state.proofs.Book.{at-numbers}
-use Rattle.sound.specs.IsSound.{used, Proper}
+use Rattle.sound_records.specs.Records.{used, Proper}
 use Rattle.soundness.specs.Paragraph.{Sized, Enabled, Fresh, Paragraph}
 use Rattle.soundness.proofs.Orders.{linked-leads, linked-back, listed-once}
 use Rattle.soundness.proofs.Family.{key, Row}

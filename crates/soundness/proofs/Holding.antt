@@ -16,7 +16,7 @@ use Rattle.rules.specs.Sound.{In, Ahead, Other, Smaller, Good, Sound}
 use Rattle.state.specs.Shown.{numbers, at, Kept, Chained, Shelved}
 use Rattle.state.specs.State.{Holds}
 use Rattle.state.specs.declared.MemoryAllocator.{MemoryAllocator}
-use Rattle.sound.specs.IsSound.{used}
+use Rattle.sound_records.specs.Records.{used}
 use Rattle.soundness.specs.Paragraph.{Enabled, Fresh, Paragraph}
 use Rattle.soundness.proofs.Orders.{has-first, leads-head}
 use Rattle.soundness.proofs.Joined.{joined-out, joined-list}

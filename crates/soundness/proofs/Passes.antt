@@ -11,12 +11,15 @@ use Rattle.lists.specs.Links.{pick, none}
 use Rattle.lists.proofs.Check.{count}
 use Rattle.rules.specs.Rules.{sizeLists}
 use Rattle.state.specs.declared.MemoryAllocator.{MemoryAllocator}
-use Rattle.sound.specs.Walk.{onward}
-use Rattle.sound.specs.IsSound.{recordOk, recordAt, used, chainWalk, chainOk, listWalk, isSound, chainIn, listsIn}
+use Rattle.sound_links.specs.Walk.{onward}
+use Rattle.sound_records.specs.Records.{recordOk, recordAt, used}
+use Rattle.sound_links.specs.Walks.{chainWalk, chainOk, listWalk}
+use Rattle.sound.specs.IsSound.{isSound, chainIn, listsIn}
 use Rattle.soundness.specs.Paragraph.{Paragraph}
-use Rattle.sound.proofs.Tests.{true-and}
-use Rattle.sound.proofs.Records.{all-holds, used-ok, fresh-ok, records-counted}
-use Rattle.sound.proofs.Whole.{lists-done, lists-go, sound-of}
+use Rattle.sound_records.proofs.Tests.{true-and}
+use Rattle.sound_records.proofs.Records.{all-holds, used-ok, fresh-ok, records-counted}
+use Rattle.sound_links.proofs.Lists.{lists-done, lists-go}
+use Rattle.sound.proofs.Whole.{sound-of}
 use Rattle.soundness.proofs.Walked.{meets-walk}
 use Rattle.soundness.proofs.BothWalks.{chain-tests, list-tests}
 use Rattle.soundness.proofs.Joined.{joined}

@@ -8,10 +8,10 @@ use lib.ListN.{length, getD}
 use Rattle.lists.specs.Links.{none, has}
 use Rattle.rules.specs.Rules.{sum}
 use Rattle.state.specs.Shown.{at}
-use Rattle.sound.specs.Walk.{sumAlong}
-use Rattle.sound.specs.IsSound.{sizeAt}
+use Rattle.sound_links.specs.Walk.{sumAlong}
+use Rattle.sound_links.specs.Walks.{sizeAt}
 use Rattle.soundness.specs.Paragraph.{Leads}
-use Rattle.sound.proofs.Walk.{sum-ends, sum-goes}
+use Rattle.sound_links.proofs.Walk.{sum-ends, sum-goes}
 use Rattle.soundness.proofs.Orders.{has-first, rest}
 
 module _ (next start end : List ℕ) where

@@ -11,11 +11,11 @@ use lib.ListN.{length, getD}
 use Rattle.lists.specs.Links.{none, has}
 use Rattle.lists.proofs.Laws.{true≢false}
 use Rattle.lists.proofs.Check.{linked-listed}
-use Rattle.sound.specs.Walk.{walk}
+use Rattle.sound_links.specs.Walk.{walk}
 use Rattle.soundness.specs.Paragraph.{Leads, Back, InOrder, Meets}
-use Rattle.sound.specs.declared.Tally.{Tally}
-use Rattle.sound.specs.declared.Tally.the-variants.{Of, Broken}
-use Rattle.sound.proofs.Walk.{walk-ends, walk-goes}
+use Rattle.sound_records.specs.declared.Tally.{Tally}
+use Rattle.sound_records.specs.declared.Tally.the-variants.{Of, Broken}
+use Rattle.sound_links.proofs.Walk.{walk-ends, walk-goes}
 use Rattle.soundness.proofs.Orders.{has-first, each, rest, leads-linked, listed-once}
 
 -- what the test of a step tells: a record of These whose link back is the one before, and at least the bound

@@ -9,7 +9,8 @@ use Rattle.lists.specs.Links.{none, has}
 use Rattle.rules.specs.Rules.{top, sizeLists, sum}
 use Rattle.state.specs.Shown.{at, keyAt}
 use Rattle.state.specs.declared.MemoryAllocator.{MemoryAllocator}
-use Rattle.sound.specs.IsSound.{used, sizeAt}
+use Rattle.sound_records.specs.Records.{used}
+use Rattle.sound_links.specs.Walks.{sizeAt}
 
 -- the arrays have the places that their types say
 pub record Sized (n : ℕ) (s : MemoryAllocator) : Type 0 where

@@ -1,7 +1,7 @@
 use mathlib.Core.Path.{sym, _∙_}
 use borrow.Author.Tests.{not-true, not-false}
-use Rattle.sound.proofs.Tests.{false-and, and-of}
-use Rattle.sound.proofs.Records.{records-proper}
+use Rattle.sound_records.proofs.Tests.{false-and, and-of}
+use Rattle.sound_records.proofs.Records.{records-proper}
 use Rattle.sound.proofs.Whole.{sound-broken, sound-of}
 use borrow.Author.Needs.{needs}
 use Rattle.sound.proofs.is_sound_in.Statement.{statement}

@@ -1,0 +1,5 @@
+-- Laws of the walks.
+pub mod Walk
+pub mod Steps
+pub mod Chain
+pub mod Lists

@@ -1,0 +1,43 @@
+use borrow.Author.Tests.{lt-ltb, le-ltb, not-true, not-false}
+use lib.ListN.{getD}
+use mathlib.Core.Bool.{false}
+use Rattle.sound_links.specs.Walks.{follows}
+use borrow.Author.Needs.{needs}
+use Rattle.sound_links.proofs.follows.Statement.{statement}
+use Rattle.sound_links.proofs.follows.Tie as tie
+
+cast-n : tie.Need-cast-n
+cast-n c = search needs
+
+returns : tie.Need-returns
+unfolding follows
+returns c = rw (le-ltb _ _ (c .if1 .taken))
+
+element-copy-out-if2 : tie.Need-element-copy-out-if2
+element-copy-out-if2 c = search needs
+
+returns-2 : tie.Need-returns-2
+unfolding follows
+returns-2 c = rw (lt-ltb _ _ (c .before .before .if1 .left), not-true (getD (c .before .before .before .before .args .enabled .now) (c .before .before .before .before .args .i .0) false) (c .if2 .taken))
+
+mul-result : tie.Need-mul-result
+mul-result c = search needs
+
+element-copy-out-result : tie.Need-element-copy-out-result
+element-copy-out-result c = search needs
+
+returns-3 : tie.Need-returns-3
+unfolding follows
+returns-3 c = rw (lt-ltb _ _ (c .before .before .before .before .if1 .left), not-false (getD (c .before .before .before .before .before .before .args .enabled .now) (c .before .before .before .before .before .before .args .i .0) false) (c .before .before .if2 .left))
+
+pub follows-spec : {M : Type 1} → statement M
+follows-spec =
+    tie.close
+    (tie.spec
+    cast-n
+    returns
+    element-copy-out-if2
+    returns-2
+    mul-result
+    element-copy-out-result
+    returns-3)

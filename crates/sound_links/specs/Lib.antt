@@ -1,0 +1,3 @@
+-- What the contracts cite of the walks.
+pub mod Walk
+pub mod Walks

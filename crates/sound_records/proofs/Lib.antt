@@ -1,0 +1,3 @@
+-- Laws of the records' test.
+pub mod Tests
+pub mod Records
