@@ -1,0 +1,99 @@
+# The one LLVM module that Rattle hands to its clang for a crate: kept on the way, as text for either kind of machine, and
+# compiled by Rattle's own words. To be sourced, with the project as the current folder. Gives
+#   keep_module CRATE             proves CRATE and leaves its module as text in $work/x86_64.ll
+#   retarget CRATE                leaves the same for Arm in $work/aarch64.ll
+#   compile MACHINE TEXT OBJECT   compiles such a text, for x86_64 or aarch64
+#   pack ARCHIVE OBJECT..         makes an archive
+#   fail WHAT                     says what went wrong, and ends
+# $work is a folder that is gone at the end.
+#
+# Rattle compiles for x86-64 alone. For Arm the module's target is replaced, and the kit's same clang compiles it for bare
+# Arm: no vector or floating-point register, which may hold a guest's numbers, and no unaligned access, which faults while
+# the MMU is off.
+
+triple=aarch64-unknown-none-elf
+bare=(--target="$triple" -mgeneral-regs-only -mstrict-align)
+
+fail() {
+  echo "${0##*/}: $1" >&2
+  exit 1
+}
+
+# link_all FOLDER NAME TO: links to all that FOLDER has, NAME aside
+link_all() {
+  local entry
+  mkdir -p "$3"
+  for entry in "$1"/*; do
+    [ "${entry##*/}" = "$2" ] || ln -s "$entry" "$3/"
+  done
+}
+
+# keeping_clang CLANG FOLDER: a clang that leaves its words and its module in FOLDER and then does as CLANG does
+keeping_clang() {
+  cat <<END
+#!/bin/sh
+printf '%s\n' "\$@" >'$2/words'
+before=
+for word in "\$@"; do
+  [ "\$before" != ir ] || cp "\$word" '$2/module.bc'
+  before=\$word
+done
+exec '$1' "\$@"
+END
+}
+
+# A kit of links to the real one, with the keeping clang in it: `rt` itself then says how a crate is compiled.
+make_keeping_kit() {
+  local here
+  here=on/$(uname -m)
+  link_all "$kit" on "$work/kit"
+  link_all "$kit/$here" toolchain "$work/kit/$here"
+  link_all "$kit/$here/toolchain" bin "$work/kit/$here/toolchain"
+  link_all "$kit/$here/toolchain/bin" clang "$work/kit/$here/toolchain/bin"
+  keeping_clang "$clang" "$work" >"$work/kit/$here/toolchain/bin/clang"
+  chmod +x "$work/kit/$here/toolchain/bin/clang"
+}
+
+keep_module() {
+  make_keeping_kit
+  RATTLE_HOME=$work/kit rt staticlib "$1" >"$work/said" 2>&1 || { cat "$work/said" >&2; fail "$1 is not proved"; }
+  [ -f "$work/module.bc" ] || fail "rt made $1 without handing a module to clang; is it another kit than kit-id names?"
+  "$clang" "$(grep '^--target=' "$work/words")" -x ir "$work/module.bc" -S -emit-llvm -Xclang -disable-llvm-passes \
+    -o "$work/x86_64.ll"
+}
+
+# Triple and data layout replaced, the x86-64 attributes dropped.
+retarget() {
+  local layout
+  layout=$("$clang" --target="$triple" -S -emit-llvm -x c /dev/null -o - | grep '^target datalayout')
+  sed -E -e "s|^target datalayout = .*|$layout|" -e "s|^target triple = .*|target triple = \"$triple\"|" \
+    -e 's/ "(target-cpu|target-features|tune-cpu)"="[^"]*"//g' "$work/x86_64.ll" >"$work/aarch64.ll"
+  ! grep -n 'x86' "$work/aarch64.ll" | grep -v '^[0-9]*:\(; ModuleID\|source_filename\)' >&2 ||
+    fail "the module of $1 says more of x86-64 than its target; the lines stand above"
+}
+
+# By the words that rattle used, those of files aside; for Arm, those of the target too.
+compile() {
+  local words=() word
+  while IFS= read -r word; do
+    case $word in
+    --sysroot=* | *.bc | *.o | -x | ir | -o) ;;
+    --target=* | -march=*) [ "$1" = aarch64 ] || words+=("$word") ;;
+    *) words+=("$word") ;;
+    esac
+  done <"$work/words"
+  [ "$1" != aarch64 ] || words=("${bare[@]}" "${words[@]}")
+  "$clang" "${words[@]}" -x ir "$2" -o "$3"
+}
+
+pack() {
+  mkdir -p "${1%/*}"
+  rm -f "$1"
+  "${clang%clang}llvm-ar" rcsD "$@"
+}
+
+kit=$(tools/kit-folder)
+clang=$kit/on/$(uname -m)/toolchain/bin/clang
+[ -x "$clang" ] || fail "the kit at $kit has no clang for $(uname -m)"
+work=$(mktemp -d)
+trap 'rm -rf "$work"' EXIT
