@@ -61,7 +61,10 @@ impl Builder {
     fn next_call(&mut self) -> Call {
         loop {
             let call = self.propose();
-            let Ok(step) = self.model.step(call) else { continue };
+            let step = match self.model.step(call) {
+                Ok(step) => step,
+                Err(_) => continue,
+            };
             if !step.answer().is_accepted() && !self.rng.chance(REFUSALS_KEPT) {
                 continue;
             }
@@ -94,7 +97,7 @@ impl Builder {
     }
 
     fn play(&mut self, call: Call) -> Answer {
-        let Ok(step) = self.model.step(call) else { unreachable!("{call} was proposed outside the domain") };
+        let step = self.model.step(call).unwrap_or_else(|_| unreachable!("{call} was proposed outside the domain"));
         self.model.apply(call, &step);
         match (call, step.answer()) {
             (Call::Free { start, .. }, Answer::Accepted(_)) => self.held.retain(|&(held, _)| held != start),
