@@ -1,17 +1,19 @@
-"""What the benchmark writes: a table and a bar plot, of ratios alone."""
+"""What the benchmark writes: a table and a plot, of ratios alone."""
 
+import math
 from html import escape
 
-BAR, GAP, GROUP_GAP = 16, 4, 22
-LEFT, WIDTH, RIGHT = 190, 420, 60
+BAR, GAP, GROUP_GAP, TOP = 16, 4, 14, 58
+LEFT, WIDTH, RIGHT = 216, 400, 44
 COLOURS = ("#8a8f98", "#2f6f9f", "#b5651d", "#4d7c4d")
+MARKS = (0.1, 0.2, 0.5, 1, 2, 5, 10, 20, 50, 100, 200, 500)
 
 
 class Results:
     """The lines that the program prints, taken apart."""
 
     def __init__(self, printed):
-        self.processor, self.effort, self.ratios = "", [], {}
+        self.processor, self.effort, self.ratios, self.paths, self.compared = "", [], {}, [], 0
         for line in printed.splitlines():
             kind, *fields = line.split("\t")
             if kind == "processor":
@@ -20,18 +22,24 @@ class Results:
                 self.effort = fields
             elif kind == "ratio":
                 ranges, path, ratio = fields
-                self.ratios.setdefault(path, {})[int(ranges)] = float(ratio)
+                self.ratios[self.known(path), int(ranges)] = float(ratio)
+            elif kind == "equal":
+                _, path, answers = fields
+                self.known(path)
+                self.compared += int(answers)
 
-    def paths(self):
-        return list(self.ratios)
+    def known(self, path):
+        if path not in self.paths:
+            self.paths.append(path)
+        return path
 
     def ranges(self):
-        return sorted(next(iter(self.ratios.values())))
+        return sorted({ranges for _, ranges in self.ratios})
 
 
 def shown(ratio):
     """Two digits are all that a repeated run confirms."""
-    return f"{ratio:.0f}" if ratio >= 10 else f"{ratio:.1f}"
+    return f"{ratio:.0f}" if ratio >= 10 else f"{ratio:.1f}" if ratio >= 1 else f"{ratio:.2f}"
 
 
 def table(results):
@@ -39,15 +47,15 @@ def table(results):
     head = "| path | " + " | ".join(f"{ranges} free ranges" for ranges in columns) + " |"
     rule = "|---" * (len(columns) + 1) + "|"
     rows = [
-        f"| {path} | " + " | ".join(shown(ratios[ranges]) for ranges in columns) + " |"
-        for path, ratios in results.ratios.items()
+        f"| {path} | " + " | ".join(shown(results.ratios[path, ranges]) for ranges in columns) + " |"
+        for path in results.paths
     ]
     return "\n".join([head, rule, *rows])
 
 
 def markdown(results, versions):
     rounds, calls, slack = results.effort
-    baseline = results.paths()[0]
+    baseline, c_call, by_value, in_place = results.paths
     return f"""# Benchmark
 
 Time as a multiple of that of {baseline}, the untouched module, on the same calls in one process, both optimised.
@@ -58,40 +66,82 @@ Time as a multiple of that of {baseline}, the untouched module, on the same call
 
 Measured on: {results.processor}. {versions}.
 
+## The paths
+
+- **{baseline}** works in place and checks nothing of its state.
+- **{c_call}** is what a program gets from the archive. It reads the image, works, and writes the image; the whole state is
+  checked when it is read, when the core is handed it, and before it is written.
+- **{by_value}**, is `memory_allocator`: the state goes in, is checked, copied and worked on, and comes back, and the caller keeps
+  what came back. No image is read or written.
+- **{in_place}**, are those of `calls`: the work alone, on fields that are lent to them. Their contract requires a sound state, and
+  nothing looks whether it is: they serve callers that are proved themselves.
+
+The last two are inside the archive and have no door for a program. `bench/inner-archive` gives their functions names in the module
+that Rattle makes of `c_calls`, and changes nothing else of it. This glue, with its declarations in `bench/src/inner.rs`, is not proved, and
+is the benchmark's alone.
+
+## How it is measured
+
 - `tools/bench` measures again and writes this page. Another processor has other ratios; none is a promise.
 - {calls} calls (takes, reserves and frees, one in a few dozen refused), the number of free ranges never more than {slack} from the
   one named; the least of {rounds} rounds, taken for each stretch of 200 calls and added up; in each round every path plays once.
 - Every answer of every round is compared with document 01's: addresses and acceptances of all paths, and the refusal numbers
   of all but the module, whose total drifts (docs/DIFFERENCES.md).
-- A C call reads the image, checks the whole state, does its work and writes the image. The module checks nothing.
+- All proved code is compiled as in the archive of the machine. That for Arm is for bare machines (`tools/arm-archive`): no vector
+  register, no unaligned access. The module is compiled as any program's Rust is.
+- Under an emulator nothing is measured.
 """
 
 
-def bars(results):
-    """The bars with their labels, and the height that they take."""
-    longest = max(ratio for ratios in results.ratios.values() for ratio in ratios.values())
-    lines, top = [], 44
+class Scale:
+    """Across the plot, logarithmic: as far from 1 to 2 as from 10 to 20."""
+
+    def __init__(self, ratios):
+        low = max(mark for mark in MARKS[:3] if mark <= min(ratios) or mark == MARKS[0])
+        high = min(mark for mark in MARKS[4:] if mark >= max(ratios) or mark == MARKS[-1])
+        self.marks = [mark for mark in MARKS if low <= mark <= high]
+
+    def at(self, ratio):
+        low, high = self.marks[0], self.marks[-1]
+        return round(LEFT + WIDTH * math.log(ratio / low) / math.log(high / low))
+
+
+def grid(scale, height):
+    lines = []
+    for mark in scale.marks:
+        x, colour = scale.at(mark), "#222" if mark == 1 else "#ddd"
+        lines += [
+            f'<text x="{x}" y="{TOP - 14}" text-anchor="middle" fill="#666">{mark}</text>',
+            f'<line x1="{x}" y1="{TOP - 8}" x2="{x}" y2="{height - 8}" stroke="{colour}"/>',
+        ]
+    return lines
+
+
+def bars(results, scale):
+    """The bars, each from 1 to its ratio, with their labels, and the height that they take."""
+    lines, top = [], TOP
     for ranges in results.ranges():
         lines.append(f'<text x="8" y="{top + BAR - 4}" font-weight="bold">{ranges} free ranges</text>')
         top += BAR + GAP
-        for at, path in enumerate(results.paths()):
-            ratio = results.ratios[path][ranges]
-            width = max(1, round(WIDTH * ratio / longest))
+        for at, path in enumerate(results.paths):
+            ratio = results.ratios[path, ranges]
+            left, right = sorted((scale.at(1), scale.at(ratio)))
             baseline = top + BAR - 4
             lines += [
                 f'<text x="{LEFT - 8}" y="{baseline}" text-anchor="end">{escape(path)}</text>',
-                f'<rect x="{LEFT}" y="{top}" width="{width}" height="{BAR}" fill="{COLOURS[at % len(COLOURS)]}"/>',
-                f'<text x="{LEFT + width + 6}" y="{baseline}">{shown(ratio)}</text>',
+                f'<rect x="{left - 1}" y="{top}" width="{right - left + 2}" height="{BAR}" fill="{COLOURS[at % len(COLOURS)]}"/>',
+                f'<text x="{right + 6}" y="{baseline}">{shown(ratio)}</text>',
             ]
             top += BAR + GAP
-        top += GROUP_GAP - GAP
+        top += GROUP_GAP
     return lines, top
 
 
 def svg(results):
-    lines, height = bars(results)
+    scale = Scale(results.ratios.values())
+    lines, height = bars(results, scale)
     width = LEFT + WIDTH + RIGHT
-    title = f"Time as a multiple of that of {results.paths()[0]} ({results.processor})"
+    title = f"Time as a multiple of that of {results.paths[0]} ({results.processor}), logarithmic"
     return "\n".join(
         [
             f'<svg xmlns="http://www.w3.org/2000/svg" width="{width}" height="{height}" viewBox="0 0 {width} {height}" '
@@ -99,6 +149,7 @@ def svg(results):
             f"<title>{escape(title)}</title>",
             f'<rect width="{width}" height="{height}" fill="#ffffff"/>',
             f'<text x="8" y="22" font-size="14">{escape(title)}</text>',
+            *grid(scale, height),
             *lines,
             "</svg>\n",
         ]

@@ -1,15 +1,15 @@
-//! Who plays. To add a path, implement `Contender` for it and name it in `all`; a door that serves many calls at a time
-//! fits as well, since a contender is handed the whole list.
+//! Who plays. To add a path that answers call by call, add a line to `contenders!`; one that serves many calls at a time
+//! implements `Contender` itself, which is handed the whole list.
 
 use crate::call::{Answer, Call};
+#[cfg(feature = "inner")]
+use crate::inner;
 
 pub trait Contender {
     fn name(&self) -> &'static str;
 
     /// Whether its refusal numbers may be others than document 01's.
-    fn numbers_drift(&self) -> bool {
-        false
-    }
+    fn numbers_drift(&self) -> bool;
 
     /// Begins again, empty.
     fn reset(&mut self);
@@ -18,17 +18,39 @@ pub trait Contender {
     fn play(&mut self, calls: &[Call], answers: &mut [i64]);
 }
 
-/// The first is what the others are compared with.
-pub fn all() -> Vec<Box<dyn Contender>> {
-    vec![Box::new(Rust(original::memory_allocator::MemoryAllocator::new())), Box::new(CCall::default())]
+/// `name: an allocator with the module's calls, numbers_drift, what the report calls it`
+macro_rules! contenders {
+    ($($(#[$if:meta])? $name:ident: $allocator:ty, $drift:literal, $title:literal;)*) => {
+        /// The first is what the others are compared with.
+        pub fn all() -> Vec<Box<dyn Contender>> {
+            vec![$($(#[$if])? Box::new($name(<$allocator>::new()))),*]
+        }
+
+        $(
+            $(#[$if])?
+            struct $name($allocator);
+
+            $(#[$if])?
+            impl Contender for $name {
+                fn name(&self) -> &'static str {
+                    $title
+                }
+
+                fn numbers_drift(&self) -> bool {
+                    $drift
+                }
+
+                fn reset(&mut self) {
+                    self.0 = <$allocator>::new();
+                }
+
+                fn play(&mut self, calls: &[Call], answers: &mut [i64]) {
+                    play_one_by_one!(self.0, calls, answers);
+                }
+            }
+        )*
+    };
 }
-
-/// MiniVisor's module, untouched.
-struct Rust(original::memory_allocator::MemoryAllocator);
-
-/// The C calls over an image, by the crate that takes the module's place.
-#[derive(Default)]
-struct CCall(cinghjalofa::MemoryAllocator);
 
 macro_rules! play_one_by_one {
     ($memory:expr, $calls:expr, $answers:expr) => {
@@ -48,37 +70,12 @@ macro_rules! play_one_by_one {
     };
 }
 
-impl Contender for Rust {
-    fn name(&self) -> &'static str {
-        "MiniVisor's Rust"
-    }
-
-    /// It adds the size of a free twice, so that its total drifts.
-    fn numbers_drift(&self) -> bool {
-        true
-    }
-
-    fn reset(&mut self) {
-        self.0 = original::memory_allocator::MemoryAllocator::new();
-    }
-
-    fn play(&mut self, calls: &[Call], answers: &mut [i64]) {
-        play_one_by_one!(self.0, calls, answers);
-    }
-}
-
-impl Contender for CCall {
-    fn name(&self) -> &'static str {
-        "C call over the image"
-    }
-
-    fn reset(&mut self) {
-        self.0 = cinghjalofa::MemoryAllocator::new();
-    }
-
-    fn play(&mut self, calls: &[Call], answers: &mut [i64]) {
-        play_one_by_one!(self.0, calls, answers);
-    }
+// The module adds the size of a free twice, so that its total drifts, and with it its refusals.
+contenders! {
+    Rust: original::memory_allocator::MemoryAllocator, true, "MiniVisor's Rust";
+    CCall: cinghjalofa::MemoryAllocator, false, "C call over the image";
+    #[cfg(feature = "inner")] ByValue: inner::ByValue, false, "by-value core, with its check";
+    #[cfg(feature = "inner")] InPlace: inner::InPlace, false, "in-place calls, no check";
 }
 
 pub fn as_number(answer: Answer) -> i64 {

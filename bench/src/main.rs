@@ -2,9 +2,12 @@
 //! Plays the same calls by every contender and compares every answer. Prints lines of fields split by tabs:
 //! `processor`, its name; `effort`, rounds, calls and how far the number of ranges wanders; then for each number of ranges
 //! and each contender `ratio`, its time as a multiple of the Rust's.
-//! With --smoke one short round and no ratios. Under emulation nothing is measured.
+//! With --smoke one short round, and for each number of ranges and each contender `equal`, how many answers were compared.
+//! Under emulation nothing is measured. The paths behind the C calls play where the feature `inner` is on.
 
 mod contenders;
+#[cfg(feature = "inner")]
+mod inner;
 mod machine;
 mod measure;
 mod workload;
@@ -55,8 +58,9 @@ fn compare_all() -> Result<(), String> {
     for ranges in FREE_RANGES {
         let workload = Workload::around(ranges, SMOKE.calls);
         measure::least_times(&workload, &SMOKE)?;
-        let contenders = contenders::all().len();
-        println!("equal\t{ranges}\t{}\t{contenders}", workload.calls.len());
+        for contender in contenders::all() {
+            println!("equal\t{ranges}\t{}\t{}", contender.name(), workload.calls.len());
+        }
     }
     Ok(())
 }
