@@ -3,7 +3,7 @@
 import math
 from html import escape
 
-BAR, GAP, GROUP_GAP, TOP = 16, 4, 14, 58
+BAR, GAP, GROUP_GAP, TOP = 16, 4, 14, 76
 LEFT, WIDTH, RIGHT = 216, 400, 44
 COLOURS = ("#8a8f98", "#2f6f9f", "#b5651d", "#4d7c4d")
 MARKS = (0.1, 0.2, 0.5, 1, 2, 5, 10, 20, 50, 100, 200, 500)
@@ -69,16 +69,16 @@ Measured on: {results.processor}. {versions}.
 ## The paths
 
 - **{baseline}** works in place and checks nothing of its state.
-- **{c_call}** is what a program gets from the archive. It reads the image, works, and writes the image; the whole state is
-  checked when it is read, when the core is handed it, and before it is written.
-- **{by_value}**, is `memory_allocator`: the state goes in, is checked, copied and worked on, and comes back, and the caller keeps
-  what came back. No image is read or written.
-- **{in_place}**, are those of `calls`: the work alone, on fields that are lent to them. Their contract requires a sound state, and
-  nothing looks whether it is: they serve callers that are proved themselves.
+- **{c_call}** is what a program gets from the archive. It reads the image, works, and writes the image; the
+  whole state is checked when it is read, when the core is handed it, and before it is written.
+- **{by_value}**, is `memory_allocator`: the state goes in, is checked, copied and worked on, and
+  comes back, and the caller keeps what came back. No image is read or written.
+- **{in_place}**, are those of `calls`: the work alone, on fields that are lent to them. Their contract
+  requires a sound state, and nothing looks whether it is: they serve callers that are proved themselves.
 
-The last two are inside the archive and have no door for a program. `bench/inner-archive` gives their functions names in the module
-that Rattle makes of `c_calls`, and changes nothing else of it. This glue, with its declarations in `bench/src/inner.rs`, is not proved, and
-is the benchmark's alone.
+The last two are inside the archive and have no door for a program. `bench/inner-archive` takes them from the module that Rattle
+makes of `c_calls`, leaves their code as it is, and gives them names that can be linked. This glue, with its declarations in
+`bench/src/inner.rs`, is not proved, and is the benchmark's alone.
 
 ## How it is measured
 
@@ -87,8 +87,8 @@ is the benchmark's alone.
   one named; the least of {rounds} rounds, taken for each stretch of 200 calls and added up; in each round every path plays once.
 - Every answer of every round is compared with document 01's: addresses and acceptances of all paths, and the refusal numbers
   of all but the module, whose total drifts (docs/DIFFERENCES.md).
-- All proved code is compiled as in the archive of the machine. That for Arm is for bare machines (`tools/arm-archive`): no vector
-  register, no unaligned access. The module is compiled as any program's Rust is.
+- All proved code is compiled as the archive is. The one for Arm is for bare machines (`tools/arm-archive`): no vector register, no
+  unaligned access. The module is compiled as any program's Rust is.
 - Under an emulator nothing is measured.
 """
 
@@ -141,7 +141,7 @@ def svg(results):
     scale = Scale(results.ratios.values())
     lines, height = bars(results, scale)
     width = LEFT + WIDTH + RIGHT
-    title = f"Time as a multiple of that of {results.paths[0]} ({results.processor}), logarithmic"
+    title = f"Time as a multiple of that of {results.paths[0]}, logarithmic"
     return "\n".join(
         [
             f'<svg xmlns="http://www.w3.org/2000/svg" width="{width}" height="{height}" viewBox="0 0 {width} {height}" '
@@ -149,6 +149,7 @@ def svg(results):
             f"<title>{escape(title)}</title>",
             f'<rect width="{width}" height="{height}" fill="#ffffff"/>',
             f'<text x="8" y="22" font-size="14">{escape(title)}</text>',
+            f'<text x="8" y="40" fill="#666">{escape(results.processor)}</text>',
             *grid(scale, height),
             *lines,
             "</svg>\n",

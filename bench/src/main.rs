@@ -36,7 +36,7 @@ use workload::Workload;
 
 const FREE_RANGES: [usize; 3] = [5, 25, 50];
 const SMOKE: Effort = Effort { calls: 2_000, rounds: 1 };
-const FULL: Effort = Effort { calls: 20_000, rounds: 40 };
+const FULL: Effort = Effort { calls: 20_000, rounds: 100 };
 
 fn main() -> ExitCode {
     let words: Vec<String> = std::env::args().skip(1).collect();
