@@ -69,8 +69,8 @@ Measured on: {results.processor}. {versions}.
 ## The paths
 
 - **{baseline}** works in place. Of its state it checks that a link it follows is the number of a record, and no more.
-- **{c_call}** is what a program gets from the archive. It reads the image, works, and writes the image; the
-  whole state is checked when it is read, when the core is handed it, and before it is written.
+- **{c_call}** is what a program gets from the archive. It reads the image and checks the whole state, works,
+  and writes the image.
 - **{by_value}**, is `memory_allocator`: the state goes in, is checked, copied and worked on, and
   comes back, and the caller keeps what came back. No image is read or written.
 - **{in_place}**, are those of `calls`: the work alone, on fields that are lent to them. Their contract
