@@ -39,6 +39,13 @@ struct Outcome {
     state: State,
 }
 
+/// `requests::Request`: 0 allocate, 1 reserve, 2 free, and the call's numbers in its own order.
+#[repr(C)]
+struct Request {
+    kind: u8,
+    numbers: [u64; 3],
+}
+
 // The sizes that bench/inner-archive has seen in the module: any other is a compile error.
 const _: [u8; 1640] = [0; size_of::<State>()];
 const _: [u8; 1656] = [0; size_of::<Outcome>()];
@@ -46,9 +53,8 @@ const _: [u8; 16] = [0; size_of::<Answer>()];
 
 extern "C" {
     fn bench_new(state: *mut State);
-    fn bench_allocate(outcome: *mut Outcome, state: *const State, size: u64, order: u64);
-    fn bench_reserve_memory(outcome: *mut Outcome, state: *const State, address: *const u64, size: u64, order: u64);
-    fn bench_free(outcome: *mut Outcome, state: *const State, address: *const u64, size: u64);
+    fn bench_is_sound(state: *const State) -> bool;
+    fn bench_serve_sound(outcome: *mut Outcome, state: *const State, request: *const Request);
 }
 
 macro_rules! in_place {
@@ -103,37 +109,38 @@ impl Answer {
     }
 }
 
-/// `memory_allocator::{allocate, reserve_memory, free}`: a call is handed the state and hands back the next one, which is
-/// kept, as a function of Rattle would do it.
+/// `memory_allocator`: a call is handed the state and hands back the next one, which is kept, as a function of Rattle would
+/// do it. Its check and its serving of a sound state are put together here as `memory_allocator::serve` does, which the
+/// module of the C calls has not.
 pub struct ByValue {
     state: State,
     outcome: Outcome,
 }
 
-// SAFETY, of each call: it reads the state and writes the outcome, which are apart, and judges the state before it trusts it.
 impl ByValue {
     pub fn new() -> ByValue {
         ByValue { state: State::new(), outcome: Outcome { answer: Answer::UNSET, state: State::new() } }
     }
 
     pub fn allocate(&mut self, size: usize, order: usize) -> Result<usize, MemoryError> {
-        unsafe { bench_allocate(&mut self.outcome, &self.state, size as u64, order as u64) };
-        self.kept()
+        self.serve(Request { kind: 0, numbers: [size as u64, order as u64, 0] })
     }
 
     pub fn reserve_memory(&mut self, start: usize, size: usize, order: usize) -> Result<(), MemoryError> {
-        let address = start as u64;
-        unsafe { bench_reserve_memory(&mut self.outcome, &self.state, &address, size as u64, order as u64) };
-        self.kept().map(|_| ())
+        self.serve(Request { kind: 1, numbers: [start as u64, size as u64, order as u64] }).map(|_| ())
     }
 
     pub fn free(&mut self, start: usize, size: usize) -> Result<(), MemoryError> {
-        let address = start as u64;
-        unsafe { bench_free(&mut self.outcome, &self.state, &address, size as u64) };
-        self.kept().map(|_| ())
+        self.serve(Request { kind: 2, numbers: [start as u64, size as u64, 0] }).map(|_| ())
     }
 
-    fn kept(&mut self) -> Result<usize, MemoryError> {
+    fn serve(&mut self, request: Request) -> Result<usize, MemoryError> {
+        // SAFETY: the check only reads the state.
+        if !unsafe { bench_is_sound(&self.state) } {
+            return Err(MemoryError::InvalidEntry);
+        }
+        // SAFETY: the state is sound; the call reads it and the request and writes the outcome, which are apart.
+        unsafe { bench_serve_sound(&mut self.outcome, &self.state, &request) };
         self.state = self.outcome.state;
         self.outcome.answer.result()
     }
