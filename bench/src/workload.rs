@@ -97,7 +97,10 @@ impl Builder {
     }
 
     fn play(&mut self, call: Call) -> Answer {
-        let step = self.model.step(call).unwrap_or_else(|_| unreachable!("{call} was proposed outside the domain"));
+        let step = match self.model.step(call) {
+            Ok(step) => step,
+            Err(why) => unreachable!("{call} was proposed outside the domain: {why:?}"),
+        };
         self.model.apply(call, &step);
         match (call, step.answer()) {
             (Call::Free { start, .. }, Answer::Accepted(_)) => self.held.retain(|&(held, _)| held != start),

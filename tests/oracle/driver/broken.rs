@@ -25,17 +25,16 @@ impl Breakage {
     ];
 
     pub fn spoil(self, before: &Port, call: Call, port: &mut Port) {
-        let (Ok(before), Ok(mut shape)) = (before.shape(), port.shape()) else {
-            return;
-        };
-        match self {
-            Breakage::PlacedAfterEquals => place_after_equals(&before, &mut shape),
-            Breakage::HighPiecePlacedFirst => exchange_equal_halves(&before, call, &mut shape),
-            Breakage::HighestUnusedRecord => use_highest_record(&before, &mut shape),
-            Breakage::UpperNumberKept => keep_upper_number(&before, &mut shape),
-            Breakage::DriftedTotal => add_twice(&before, call, &mut shape),
+        if let (Ok(before), Ok(mut shape)) = (before.shape(), port.shape()) {
+            match self {
+                Breakage::PlacedAfterEquals => place_after_equals(&before, &mut shape),
+                Breakage::HighPiecePlacedFirst => exchange_equal_halves(&before, call, &mut shape),
+                Breakage::HighestUnusedRecord => use_highest_record(&before, &mut shape),
+                Breakage::UpperNumberKept => keep_upper_number(&before, &mut shape),
+                Breakage::DriftedTotal => add_twice(&before, call, &mut shape),
+            }
+            port.image = image::write(&shape);
         }
-        port.image = image::write(&shape);
     }
 }
 
@@ -47,11 +46,12 @@ fn place_after_equals(before: &Shape, shape: &mut Shape) {
     for list in 0..LISTS {
         let mut order = shape.walk(shape.heads[list], |record| record.list_next);
         for &at in &placed {
-            let Some(found) = order.iter().position(|&other| other == at) else { continue };
-            order.remove(found);
-            let size = shape.records[at as usize].size();
-            let behind = order.iter().take_while(|&&other| shape.records[other as usize].size() <= size).count();
-            order.insert(behind, at);
+            if let Some(found) = order.iter().position(|&other| other == at) {
+                order.remove(found);
+                let size = shape.records[at as usize].size();
+                let behind = order.iter().take_while(|&&other| shape.records[other as usize].size() <= size).count();
+                order.insert(behind, at);
+            }
         }
         relink(shape, list, &order);
     }
@@ -59,8 +59,9 @@ fn place_after_equals(before: &Shape, shape: &mut Shape) {
 
 fn exchange_equal_halves(before: &Shape, call: Call, shape: &mut Shape) {
     let added = positions(before, shape, |old, new| !old.enabled && new.enabled);
-    let (false, &[high]) = (matches!(call, Call::Free { .. }), &added[..]) else {
-        return;
+    let high = match added[..] {
+        [high] if !matches!(call, Call::Free { .. }) => high,
+        _ => return,
     };
     let low = shape.records[high as usize].previous;
     if shape.records[low as usize].size() != shape.records[high as usize].size() {

@@ -150,8 +150,9 @@ impl Model {
         let fitting = self.ranges.iter().enumerate().filter_map(|(at, range)| {
             range.fitting_start(size, order).map(|address| (range.size(), Reverse(range.placed), at, address))
         });
-        let Some((_, _, at, address)) = fitting.min() else {
-            return Step::refused(Kind::AllocateWithoutFit);
+        let (at, address) = match fitting.min() {
+            Some((_, _, at, address)) => (at, address),
+            None => return Step::refused(Kind::AllocateWithoutFit),
         };
         let kinds = [Kind::AllocateWhole, Kind::AllocateFront, Kind::AllocateTail, Kind::AllocateMiddle];
         let step = self.take(at, address, address + size - 1, kinds, Kind::AllocateWithoutRecord)?;
@@ -163,7 +164,7 @@ impl Model {
         let high = round_up(start + size, order) - 1;
         let at = self.index_from(low);
         let holder = self.ranges.get(at).filter(|range| range.start <= low);
-        if holder.is_some_and(|range| high > range.end) {
+        if matches!(holder, Some(range) if high > range.end) {
             return Err(Outside::ReservePastARangesEnd);
         }
         if size > self.total {
@@ -172,8 +173,9 @@ impl Model {
         if high - low >= self.total {
             return Step::refused(Kind::ReserveWidenedOverTotal);
         }
-        let Some(range) = holder else {
-            return Step::refused(Kind::ReserveOfUsedBytes);
+        let range = match holder {
+            Some(range) => range,
+            None => return Step::refused(Kind::ReserveOfUsedBytes),
         };
         if self.ranges.len() == 1 && (low, high) == (range.start, range.end) {
             return Step::refused(Kind::ReserveOfOnlyRange);

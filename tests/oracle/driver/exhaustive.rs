@@ -87,7 +87,8 @@ impl Exhaustive {
     /// Every free, allocate and reserve over the addresses; orders 0, those that tell some of them apart, and 63.
     fn calls(&self) -> Vec<Call> {
         let mut calls = Vec::new();
-        let telling = (1..=self.addresses.ilog2() as u64).map(|order| self.unit_order + order);
+        let highest_bit = (u64::BITS - 1 - self.addresses.leading_zeros()) as u64;
+        let telling = (1..=highest_bit).map(|order| self.unit_order + order);
         let orders: Vec<u64> = [0].into_iter().chain(telling).chain([MAX_ORDER]).collect();
         let unit = 1 << self.unit_order;
         for start in 0..self.addresses {

@@ -63,16 +63,16 @@ thread_local! {
 pub fn silence_assertions() {
     let usual = panic::take_hook();
     panic::set_hook(Box::new(move |info| {
-        if !INSIDE_THE_RUST.get() {
+        if !INSIDE_THE_RUST.with(Cell::get) {
             usual(info);
         }
     }));
 }
 
 fn play_guarded(module: &mut impl Module, call: Call) -> Answer {
-    INSIDE_THE_RUST.set(true);
+    INSIDE_THE_RUST.with(|inside| inside.set(true));
     let result = panic::catch_unwind(AssertUnwindSafe(|| module.call(call)));
-    INSIDE_THE_RUST.set(false);
+    INSIDE_THE_RUST.with(|inside| inside.set(false));
     match result {
         Ok(Ok(address)) => Answer::Accepted(address),
         Ok(Err(number)) => Answer::Refused(number),
@@ -108,10 +108,11 @@ macro_rules! module {
 
 macro_rules! watched {
     ($module:ident) => {
+        const _: () = assert!($module::MemoryAllocator::WATCHED_POOL_SIZE == RECORDS);
+        const _: () = assert!($module::MemoryAllocator::WATCHED_LISTS == LISTS);
+
         impl Watched for $module::MemoryAllocator {
             fn shape(&self) -> Shape {
-                const { assert!(<$module::MemoryAllocator>::WATCHED_POOL_SIZE == RECORDS) }
-                const { assert!(<$module::MemoryAllocator>::WATCHED_LISTS == LISTS) }
                 let mut shape = Shape {
                     total: self.watched_free_size() as u64,
                     first: link(self.watched_first_entry()),

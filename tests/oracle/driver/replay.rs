@@ -8,6 +8,7 @@ mod port;
 mod shape;
 mod stored;
 
+use std::ffi::OsStr;
 use std::path::Path;
 use std::process::ExitCode;
 
@@ -15,9 +16,12 @@ use port::Port;
 use stored::{StoredCall, StoredHistory};
 
 fn main() -> ExitCode {
-    let Some(folder) = std::env::args().nth(1) else {
-        eprintln!("replay: name the folder of stored histories");
-        return ExitCode::from(2);
+    let folder = match std::env::args().nth(1) {
+        Some(folder) => folder,
+        None => {
+            eprintln!("replay: name the folder of stored histories");
+            return ExitCode::from(2);
+        }
     };
     match replay_folder(Path::new(&folder)) {
         Ok((histories, calls)) => {
@@ -34,7 +38,7 @@ fn main() -> ExitCode {
 fn replay_folder(folder: &Path) -> Result<(usize, usize), String> {
     let entries = std::fs::read_dir(folder).map_err(|e| format!("{}: {e}", folder.display()))?;
     let mut paths: Vec<_> = entries.flatten().map(|entry| entry.path()).collect();
-    paths.retain(|path| path.extension().is_some_and(|extension| extension == "txt"));
+    paths.retain(|path| path.extension() == Some(OsStr::new("txt")));
     paths.sort();
     let (mut histories, mut calls) = (0, 0);
     for path in paths {

@@ -31,9 +31,12 @@ const PATIENCE: usize = 50;
 
 fn main() -> ExitCode {
     judges::silence_assertions();
-    let Some(folder) = std::env::args().nth(1) else {
-        eprintln!("store: name the folder to write to");
-        return ExitCode::from(2);
+    let folder = match std::env::args().nth(1) {
+        Some(folder) => folder,
+        None => {
+            eprintln!("store: name the folder to write to");
+            return ExitCode::from(2);
+        }
     };
     match store_all(Path::new(&folder)) {
         Ok(()) => ExitCode::SUCCESS,

@@ -68,9 +68,12 @@ fn play_history(number: u64, seen: &mut Vec<Kind>) {
     let length = generator.history_length(MOST_CALLS_IN_A_HISTORY) as usize;
     while history.len() < length && outside < PATIENCE {
         let call = generator.propose(&model);
-        let Ok(step) = model.step(call) else {
-            outside += 1;
-            continue;
+        let step = match model.step(call) {
+            Ok(step) => step,
+            Err(_) => {
+                outside += 1;
+                continue;
+            }
         };
         most_the_module_counts += counted_by_the_module(call);
         if most_the_module_counts >= 1 << 64 {
