@@ -12,7 +12,8 @@ usage: run.py [--archive FILE] MODE [OPTIONS]
   make-stored                                   writes stored/ anew from the original
   check-stored                                  stored/ must be what the original says today
   all                                           everything but play and make-stored, with the usual bounds
-The archive is target/staticlib/libc_calls.a, or what --archive or the variable ORACLE_ARCHIVE names.
+The archive is the project's for this machine, or what --archive or the variable ORACLE_ARCHIVE names. On an Arm machine
+`all` runs once more, within narrower bounds, over the x86-64 archive under an emulator.
 """
 
 import filecmp
@@ -23,13 +24,15 @@ from pathlib import Path
 
 sys.dont_write_bytecode = True  # no folders of compiled Python between the sources
 
+HERE = Path(__file__).resolve().parent
+sys.path.insert(0, str(HERE.parent))
+
 import build
 import original
+from machine import Failed, machines
 
-HERE = Path(__file__).resolve().parent
 STORED = HERE / "stored"
 TABLE = HERE / "differences.txt"
-USUAL_ARCHIVE = original.PROJECT / "target" / "staticlib" / "libc_calls.a"
 LIVE_MODES = ("exhaustive", "random", "play", "differences", "broken")
 OTHER_MODES = ("replay", "make-stored", "check-stored", "all")
 USUAL_BOUNDS = (
@@ -41,46 +44,48 @@ USUAL_BOUNDS = (
     ("random", []),
     ("broken", []),
 )
+EMULATED_BOUNDS = (
+    ("replay", []),
+    ("differences", []),
+    ("random", ["--calls", "20000"]),
+    ("broken", []),
+)
 NOT_RUN = """\
 *** THE LIVE COMPARISON WAS NOT RUN: no src/memory_allocator.rs in {}; MINIVISOR_SRC may name its folder ***"""
 
 
-def run_program(program, words):
+def run_program(machine, program, words):
     """The program's exit code; one that a signal ended has failed as well."""
-    code = subprocess.run([*build.runner(), str(program), *words]).returncode
+    code = subprocess.run(machine.command(program, *words)).returncode
     if code < 0:
         print(f"{program.name} {' '.join(words)}: ended by signal {-code}, most likely inside the port")
     return abs(code)
 
 
-def the_archive(named):
-    archive = Path(named or os.environ.get("ORACLE_ARCHIVE") or USUAL_ARCHIVE)
-    if not archive.is_file():
-        raise build.Failed(f"no archive at {archive}: `rt staticlib c_calls` makes it, --archive names another")
-    return archive
+def build_original(machine, module):
+    return build.build_original(machine, *original.write_crate(module, build.folder(machine)))
 
 
-def replay(archive):
-    program = build.build_program("replay", archive=archive)
-    return run_program(program, [str(STORED)])
+def replay(machine):
+    return run_program(machine, build.build_program(machine, "replay"), [str(STORED)])
 
 
-def live(mode, options, archive, module):
+def live(machine, mode, options, module):
     if mode == "differences":
         options = ["--table", str(TABLE), *options]
-    library = build.build_original(*original.write_crate(module, build.OUT))
-    return run_program(build.build_program("live", archive, library), [mode, *options])
+    program = build.build_program(machine, "live", build_original(machine, module))
+    return run_program(machine, program, [mode, *options])
 
 
-def store(folder, module):
+def store(machine, folder, module):
     folder.mkdir(parents=True, exist_ok=True)
-    library = build.build_original(*original.write_crate(module, build.OUT))
-    return run_program(build.build_program("store", original=library), [str(folder)])
+    program = build.build_program(machine, "store", build_original(machine, module), has_port=False)
+    return run_program(machine, program, [str(folder)])
 
 
-def check_stored(module):
-    again = build.OUT / "stored"
-    code = store(again, module)
+def check_stored(machine, module):
+    again = build.folder(machine) / "stored"
+    code = store(machine, again, module)
     names = sorted({path.name for folder in (again, STORED) for path in folder.glob("*.txt")})
     _, differing, missing = filecmp.cmpfiles(again, STORED, names, shallow=False)
     for name in differing + missing:
@@ -88,39 +93,44 @@ def check_stored(module):
     return 1 if code or differing or missing else 0
 
 
-def run(mode, options, archive, module):
+def run(machine, mode, options, module):
     print("--", mode, *options, flush=True)
     if mode in LIVE_MODES:
-        return live(mode, options, the_archive(archive), module)
+        return live(machine, mode, options, module)
     if mode == "replay":
-        return replay(the_archive(archive))
+        return replay(machine)
     if mode == "make-stored":
-        return store(STORED, module)
-    return check_stored(module)
+        return store(machine, STORED, module)
+    return check_stored(machine, module)
 
 
-def run_all(wanted, archive):
-    """Runs each; without the original only what needs none, with one loud line for the rest."""
+def run_all(plan):
+    """Runs each machine's modes; without the original only those that need none, with one loud line for the rest."""
     module = original.find()
-    able = [(mode, options) for mode, options in wanted if module or mode == "replay"]
-    codes = [run(mode, options, archive, module) for mode, options in able]
-    if len(able) < len(wanted):
+    codes, left_out = [], []
+    for machine, wanted in plan:
+        print(machine.title())
+        able = [(mode, options) for mode, options in wanted if module or mode == "replay"]
+        codes += [run(machine, mode, options, module) for mode, options in able]
+        left_out += [each for each in wanted if each not in able]
+    if left_out:
         print(NOT_RUN.format(original.folder()))
     return max(codes, default=0)
 
 
 def main(words):
-    archive = None
+    archive = os.environ.get("ORACLE_ARCHIVE")
     if words[:1] == ["--archive"]:
-        archive, words = words[1], words[2:]
+        archive, words = "".join(words[1:2]), words[2:]
     if not words or words[0] not in LIVE_MODES + OTHER_MODES:
         print(__doc__, file=sys.stderr)
         return 2
-    build.OUT.mkdir(parents=True, exist_ok=True)
     try:
-        wanted = USUAL_BOUNDS if words[0] == "all" else [(words[0], words[1:])]
-        return run_all(wanted, archive)
-    except (build.Failed, original.Unusable) as problem:
+        here = machines(archive)
+        if words[0] == "all":
+            return run_all([(machine, USUAL_BOUNDS if machine.is_whole else EMULATED_BOUNDS) for machine in here])
+        return run_all([(here[0], [(words[0], words[1:])])])
+    except (Failed, original.Unusable) as problem:
         print(f"oracle: {problem}", file=sys.stderr)
         return 2
 
