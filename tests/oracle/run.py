@@ -107,15 +107,18 @@ def run(machine, mode, options, module):
 def run_all(plan):
     """Runs each machine's modes; without the original only those that need none, with one loud line for the rest."""
     module = original.find()
-    codes, left_out = [], []
+    codes, left_out = {}, []
     for machine, wanted in plan:
         print(machine.title())
         able = [(mode, options) for mode, options in wanted if module or mode == "replay"]
-        codes += [run(machine, mode, options, module) for mode, options in able]
+        for mode, options in able:
+            codes[" ".join([machine.name, mode, *options])] = run(machine, mode, options, module)
         left_out += [each for each in wanted if each not in able]
     if left_out:
         print(NOT_RUN.format(original.folder()))
-    return max(codes, default=0)
+    failed = "; ".join(name for name, code in codes.items() if code)
+    print(f"oracle: FAILED: {failed}" if failed else f"oracle: {len(codes)} parts were run, all is as it must be")
+    return max(codes.values(), default=0)
 
 
 def main(words):
