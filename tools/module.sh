@@ -1,8 +1,10 @@
 # The one LLVM module that Rattle hands to its clang for a crate: kept on the way, as text for either kind of machine, and
 # compiled by Rattle's own words. To be sourced, with the project as the current folder. Gives
-#   keep_module CRATE             proves CRATE and leaves its module as text in $work/x86_64.ll
-#   retarget CRATE                leaves the same for Arm in $work/aarch64.ll
-#   compile MACHINE TEXT OBJECT   compiles such a text, for x86_64 or aarch64
+#   keep_module CRATE             proves CRATE and leaves its module as text in target/module/CRATE/x86_64.ll, and the words
+#                                 that Rattle gave its clang beside it
+#   retarget CRATE                leaves the same for Arm in target/module/CRATE/aarch64.ll
+#   compile CRATE MACHINE TEXT OBJECT
+#                                 compiles such a text by the words kept for CRATE, for x86_64 or aarch64
 #   pack ARCHIVE OBJECT..         makes an archive
 #   fail WHAT                     says what went wrong, and ends
 # $work is a folder that is gone at the end.
@@ -55,20 +57,23 @@ make_keeping_kit() {
 }
 
 keep_module() {
+  local kept=target/module/$1
   make_keeping_kit
   RATTLE_HOME=$work/kit rt staticlib "$1" >"$work/said" 2>&1 || { cat "$work/said" >&2; fail "$1 is not proved"; }
   [ -f "$work/module.bc" ] || fail "rt made $1 without handing a module to clang; is it another kit than kit-id names?"
-  "$clang" "$(grep '^--target=' "$work/words")" -x ir "$work/module.bc" -S -emit-llvm -Xclang -disable-llvm-passes \
-    -o "$work/x86_64.ll"
+  mkdir -p "$kept"
+  cp "$work/words" "$kept/words"
+  "$clang" "$(grep '^--target=' "$kept/words")" -x ir "$work/module.bc" -S -emit-llvm -Xclang -disable-llvm-passes \
+    -o "$kept/x86_64.ll"
 }
 
 # Triple and data layout replaced, the x86-64 attributes dropped.
 retarget() {
-  local layout
+  local layout kept=target/module/$1
   layout=$("$clang" --target="$triple" -S -emit-llvm -x c /dev/null -o - | grep '^target datalayout')
   sed -E -e "s|^target datalayout = .*|$layout|" -e "s|^target triple = .*|target triple = \"$triple\"|" \
-    -e 's/ "(target-cpu|target-features|tune-cpu)"="[^"]*"//g' "$work/x86_64.ll" >"$work/aarch64.ll"
-  ! grep -n 'x86' "$work/aarch64.ll" | grep -v '^[0-9]*:\(; ModuleID\|source_filename\)' >&2 ||
+    -e 's/ "(target-cpu|target-features|tune-cpu)"="[^"]*"//g' "$kept/x86_64.ll" >"$kept/aarch64.ll"
+  ! grep -n 'x86' "$kept/aarch64.ll" | grep -v '^[0-9]*:\(; ModuleID\|source_filename\)' >&2 ||
     fail "the module of $1 says more of x86-64 than its target; the lines stand above"
 }
 
@@ -78,12 +83,12 @@ compile() {
   while IFS= read -r word; do
     case $word in
     --sysroot=* | *.bc | *.o | -x | ir | -o) ;;
-    --target=* | -march=*) [ "$1" = aarch64 ] || words+=("$word") ;;
+    --target=* | -march=*) [ "$2" = aarch64 ] || words+=("$word") ;;
     *) words+=("$word") ;;
     esac
-  done <"$work/words"
-  [ "$1" != aarch64 ] || words=("${bare[@]}" "${words[@]}")
-  "$clang" "${words[@]}" -x ir "$2" -o "$3"
+  done <"target/module/$1/words"
+  [ "$2" != aarch64 ] || words=("${bare[@]}" "${words[@]}")
+  "$clang" "${words[@]}" -x ir "$3" -o "$4"
 }
 
 pack() {
