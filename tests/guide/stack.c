@@ -1,0 +1,41 @@
+/* Prints the greatest number of bytes of stack that a call of the library took: a painted stretch below main's frame, and how deep the paint is gone. */
+#include <stdio.h>
+#include "cinghjalofa.h"
+
+#define STRETCH 65536
+#define PAINT 0xa5
+
+static uint8_t image[CINGHJALOFA_IMAGE_BYTES];
+static long deepest;
+
+static __attribute__((noinline)) void paint(void) {
+    volatile uint8_t stretch[STRETCH];
+    for (long i = 0; i < STRETCH; i++)
+        stretch[i] = PAINT;
+}
+
+static __attribute__((noinline)) void measure(void) {
+    volatile uint8_t stretch[STRETCH];
+    long untouched = 0;
+    while (untouched < STRETCH && stretch[untouched] == PAINT)
+        untouched++;
+    if (STRETCH - untouched > deepest)
+        deepest = STRETCH - untouched;
+}
+
+#define TRY(call) (paint(), (void)(call), measure())
+
+int main(void) {
+    size_t len = sizeof image;
+    TRY(cinghjalofa_new(image, len));
+    for (uint64_t k = 1; k < 64; k++) /* one record is left */
+        TRY(cinghjalofa_free(image, len, 65536 * k, 32768));
+    TRY(cinghjalofa_allocate(image, len, 4096, 13));
+    TRY(cinghjalofa_reserve_memory(image, len, 70000, 100, 12)); /* a split: the last record */
+    TRY(cinghjalofa_reserve_memory(image, len, 140000, 100, 12)); /* a split without one */
+    TRY(cinghjalofa_free(image, len, 98304, 32768)); /* joins two */
+    TRY(cinghjalofa_free(image, len, 98304, 32768)); /* refused */
+    TRY(cinghjalofa_allocate(image, len, (uint64_t)1 << 40, 0));
+    printf("%ld\n", deepest);
+    return 0;
+}
