@@ -1,5 +1,6 @@
 """What the pages name is there: links, files, edits, functions, laws, and commands in the text."""
 import re
+from functools import lru_cache
 from pathlib import Path
 
 from exceptions import ELSEWHERE, MADE, UNCALLED
@@ -21,6 +22,7 @@ def crates(project):
     return {name.strip(): below.split() for name, below in parted}
 
 
+@lru_cache
 def _words(project):
     """Every word of the project's sources."""
     words = set()

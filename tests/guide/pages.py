@@ -2,6 +2,11 @@
 import re
 from dataclasses import dataclass, field
 
+FILES = {"c", "rust", "toml", "text"}  # files of the reader's, where the line above names one
+PARTS = {"rattle", "antt"}  # parts of the project's own files, which the line above names
+KINDS = FILES | PARTS | {"sh"}
+MACHINES = {"", "x86_64", "aarch64"}  # a block of kind sh may be for one kind of machine
+
 NAMED = re.compile(r"`([^`]+)`:$")
 SPAN = re.compile(r"`([^`]+)`")
 LINK = re.compile(r"\[[^\]]*\]\(([^)]+)\)")
@@ -21,6 +26,10 @@ class Block:
     @property
     def where(self):
         return f"{self.page}:{self.line}"
+
+    def is_known(self):
+        """Whether there is something that tests a block of this kind."""
+        return self.kind in KINDS and (self.machine in MACHINES if self.kind == "sh" else not self.machine)
 
 
 @dataclass

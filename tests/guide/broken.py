@@ -1,0 +1,35 @@
+"""Pages broken on purpose, each of which must be noticed: the suite can fail."""
+import re
+
+from statics import CONTRACTS, GUIDE, problems
+
+# what is wrong then; the page; the first place of this pattern; what stands there instead; what a problem must speak of
+BROKEN = [
+    ("a block of an unknown kind", GUIDE, r"```sh\n", "```console\n", "of kind console"),
+    ("a block of no kind", GUIDE, r"```text\n", "```\n", "of kind (none)"),
+    ("a command in an indented block", GUIDE, r"\n# Licence\n", "\n# Licence\n\n    rt prove\n", "write this block between"),
+    ("a command in the text that no block runs", GUIDE, r"\n# Licence\n", "\n# Licence\n\n`rt prove all`\n", "`rt prove all`"),
+    ("an answer that closes no books", GUIDE, r"\nok (\d+)\n", r"\nok 1\1\n", "this row should be"),
+    ("a wrong row in the books", GUIDE, r"\| yes \| (\d+) \|", r"| yes | 1\1 |", "this row should be"),
+    ("a wrong number of lines", GUIDE, r"(\n\| `crates/[^|]*\| )(\d+)", r"\g<1>1\2", "lines, so write"),
+    ("a folder that is not there", GUIDE, r"(\ncrates/.*\n  )", r"\1no_", "the map names crates/no_"),
+    ("a crate without a place in the map", GUIDE, r"(\ncrates/.*\n).*\n", r"\1", "does not name crates/"),
+    ("a link to nothing", GUIDE, r"\(#", "(#no-", "the link leads to #no-"),
+    ("a tool that is not there", GUIDE, r"`tools/", "`tools/no-", "`tools/no-"),
+    ("an edit that is not there", CONTRACTS, r"\n- `(\w+)/", r"\n- `\1/no_", "must-fail/no_"),
+    ("an edit with another line", CONTRACTS, r"(\n- `\w+/\w+`, .*: `)", r"\1no ", "changes its line to"),
+    ("a contract with another text", CONTRACTS, r"(```rattle\n.*\n *)ensures", r"\1promises", "has no such lines"),
+    ("a call with one wrong program", CONTRACTS, r"(Ruled out:\n\n- .*\n)(?:- .*\n)+", r"\1", "fewer than two"),
+]
+
+
+def unnoticed(project, texts, take_apart):
+    """The broken pages that nothing was said about, or that could not be broken."""
+    for what, name, old, new, word in BROKEN:
+        text, count = re.subn(old, new, texts[name], count=1)
+        if count == 0:
+            yield f"tests/guide/broken.py: {what}: {name} has no place to break, {old}"
+            continue
+        pages = {each: take_apart(each, text if each == name else texts[each]) for each in texts}
+        if not any(word in problem for problem in problems(project, pages)):
+            yield f"broken on purpose and NOT noticed: {what} ({name})"
