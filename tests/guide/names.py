@@ -1,37 +1,47 @@
 """What the pages name is there: links, files, edits, functions, laws, and commands in the text."""
 import re
 from functools import lru_cache
-from pathlib import Path
 
-from exceptions import ELSEWHERE, MADE, UNCALLED
+from exceptions import ELSEWHERE, MADE
 
 PROGRAMS = {"rt", "cargo", "gcc", "python3", "git", "bash"}
 HERE = ("./", "tools/", "tests/")
 ENDINGS = (".md", ".rt", ".antt", ".rs", ".py", ".c", ".h", ".txt", ".edit", ".toml", ".svg")
 SOURCES = ("crates", "include", "rust", "bench", "tests", "tools", "run", "test")
 A_PATH = re.compile(r"[\w.+*/-]+")
-A_FORM = re.compile(r"\b[A-Z]{2,}\b")  # words in capitals are the reader's
+A_FORM = re.compile(r"\b(CRATE|FILE|NAME)\b")  # the reader's own words
 AN_ITEM = re.compile(r"(\w+)::(\w+)")
 A_WORD = re.compile(r"[A-Za-z][\w-]*")
 
 
 def crates(project):
     """The crates of crates.txt with what each stands on, in its order."""
-    lines = (project / "crates.txt").read_text().splitlines()
-    parted = [line.split(":") for line in lines if ":" in line and not line.startswith("#")]
+    lines = [line.split("#")[0] for line in (project / "crates.txt").read_text().splitlines()]
+    parted = [line.split(":") for line in lines if ":" in line]
     return {name.strip(): below.split() for name, below in parted}
 
 
 @lru_cache
 def _words(project):
-    """Every word of the project's sources."""
+    """Every word of the project's sources, this suite's own aside."""
     words = set()
     for name in SOURCES:
         top = project / name
         for path in [top] if top.is_file() else top.rglob("*"):
-            if path.is_file() and "target" not in path.relative_to(project).parts:
+            if path.is_file() and not {"target", "guide"} & set(path.relative_to(project).parts):
                 words.update(re.findall(r"[A-Za-z_][\w-]*", path.read_text(errors="replace")))
     return words
+
+
+@lru_cache(maxsize=None)
+def _is_there(project, folder, span):
+    """A path begins at the page, at the root or at crates/; one with `../` at the page; a bare name is looked for in all crates."""
+    if span.startswith("../"):
+        return (folder / span).exists()
+    roots = [folder, project, project / "crates"]
+    if "/" not in span.rstrip("/"):
+        roots += [path for path in (project / "crates").rglob("*") if path.is_dir()]
+    return any(next(root.glob(span.rstrip("/")), None) for root in roots)
 
 
 def _anchor(heading):
@@ -43,28 +53,21 @@ class Names:
     """`written` are the files that pages have the reader write, `called` the commands of all blocks."""
 
     def __init__(self, project, pages, written, called):
-        self.project, self.pages, self.written = project, pages, written
-        self.called = called | {exception.command for exception in UNCALLED}
+        self.project, self.pages, self.written, self.called = project, pages, written, called
         self.crates = crates(project)
         self.words = _words(project)
-        self.count = 0
 
     def missing(self):
         """What is wrong, each with its place."""
         for page in self.pages:
             folder = (self.project / page.name).parent
-            for line, target in page.links():
-                yield from self._told(page, line, self._link(page, folder, target))
-            for line, span in page.spans():
-                yield from self._told(page, line, self._span(folder, span))
-
-    def _told(self, page, line, problem):
-        self.count += 1
-        if problem:
-            yield f"{page.name}:{line}: {problem}"
+            found = [(line, self._link(page, folder, target)) for line, target in page.links()]
+            found += [(line, self._span(folder, span)) for line, span in page.spans()]
+            for line, problem in sorted(pair for pair in found if pair[1]):
+                yield f"{page.name}:{line}: {problem}"
 
     def _link(self, page, folder, target):
-        if "://" in target or target in self.words:  # a web page; in the crate's own page, an item of the crate
+        if "://" in target:
             return None
         file, _, anchor = target.partition("#")
         if file and not (folder / file).exists():
@@ -78,10 +81,8 @@ class Names:
             return None
         if " " in span:
             return self._command(span)
-        if A_FORM.search(span) and ("/" in span or span.endswith(ENDINGS)):
-            return None
         if A_PATH.fullmatch(span) and (re.search(r"\w/|/\w", span) or span.endswith(ENDINGS)):
-            return self._path(folder, span)
+            return None if A_FORM.search(span) else self._path(folder, span)
         item = AN_ITEM.fullmatch(span)
         if item and item[1] in self.crates:
             return self._item(*item.groups())
@@ -103,20 +104,11 @@ class Names:
         crate, _, edit = span.partition("/")
         if crate in self.crates and (self.project / "crates" / crate / "must-fail" / f"{edit}.edit").is_file():
             return None
-        if any(next(root.glob(span.rstrip("/")), None) for root in self._roots(folder, span)):
+        if _is_there(self.project, folder, span):
             return None
         if crate in self.crates and re.fullmatch(r"\w+", edit):
             return f"`{span}`: there is no crates/{crate}/must-fail/{edit}.edit"
         return f"`{span}`: there is no such file or folder"
-
-    def _roots(self, folder, span):
-        """Where a path may begin; one of `../` only at the page, a bare file or folder name anywhere in the crates."""
-        if span.startswith("../"):
-            return [Path(folder)] if (folder / span).exists() else []
-        around = [folder, self.project, self.project / "crates"]
-        if "/" not in span.rstrip("/"):
-            around += [path for path in (self.project / "crates").rglob("*") if path.is_dir()]
-        return around
 
     def _item(self, crate, name):
         declared = re.compile(rf"\b(fn|struct|enum|const) {name}\b")
