@@ -22,7 +22,7 @@ def quoted(project, block):
     path = project / block.name
     if not block.name or not path.is_file():
         return f"{block.where}: the line above must end with the name of the file that this is a part of, and a colon"
-    if "\n".join(block.lines) + "\n" not in path.read_text():
+    if "\n".join(block.lines) + "\n" not in path.read_text("utf-8"):
         return f"{block.where}: {block.name} has no such lines, one after the other"
     return None
 
@@ -57,7 +57,7 @@ def _stands_on(crate, below):
 
 
 def _new_line(path):
-    lines = [line for line in path.read_text().splitlines() if line.startswith("new: ")]
+    lines = [line for line in path.read_text("utf-8").splitlines() if line.startswith("new: ")]
     return lines[0][5:].strip() if lines else ""
 
 
@@ -93,8 +93,8 @@ def held(project, page):
 def _public(project, crate):
     """The functions that a crate gives to others: those of lib.rt and of its public modules, and what it hands on."""
     source = project / "crates" / crate / "src"
-    lib = (source / "lib.rt").read_text()
-    texts = [lib] + [(source / f"{name}.rt").read_text() for name in re.findall(r"^pub mod (\w+);", lib, re.M)]
+    lib = (source / "lib.rt").read_text("utf-8")
+    texts = [lib] + [(source / f"{name}.rt").read_text("utf-8") for name in re.findall(r"^pub mod (\w+);", lib, re.M)]
     own = [name for text in texts for name in re.findall(r'^pub (?:extern "C" )?fn (\w+)', text, re.M)]
     return own + [name for module, name in re.findall(r"^pub use (\w+)::(\w+);", lib, re.M) if (source / f"{module}.rt").is_file()]
 

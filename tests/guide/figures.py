@@ -9,7 +9,7 @@ HEADER = ("files", "lines, without blank ones, to the nearest ten")
 
 def _lines(path):
     files = sorted(path.iterdir()) if path.is_dir() else [path]
-    return sum(1 for file in files for line in file.read_text().splitlines() if line.strip())
+    return sum(1 for file in files for line in file.read_text("utf-8").splitlines() if line.strip())
 
 
 def _to_ten(number):

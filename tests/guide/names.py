@@ -10,13 +10,14 @@ ENDINGS = (".md", ".rt", ".antt", ".rs", ".py", ".c", ".h", ".txt", ".edit", ".t
 SOURCES = ("crates", "include", "rust", "bench", "tests", "tools", "run", "test")
 A_PATH = re.compile(r"[\w.+*/-]+")
 A_FORM = re.compile(r"\b(CRATE|FILE|NAME)\b")  # the reader's own words
+IN_TEXT = re.compile(r"(?<![\w/.-])(?:bench|crates|docs|include|rust|tests|tools)/[\w./-]*\w")  # without backquotes
 AN_ITEM = re.compile(r"(\w+)::(\w+)")
 A_WORD = re.compile(r"[A-Za-z][\w-]*")
 
 
 def crates(project):
     """The crates of crates.txt with what each stands on, in its order."""
-    lines = [line.split("#")[0] for line in (project / "crates.txt").read_text().splitlines()]
+    lines = [line.split("#")[0] for line in (project / "crates.txt").read_text("utf-8").splitlines()]
     parted = [line.split(":") for line in lines if ":" in line]
     return {name.strip(): below.split() for name, below in parted}
 
@@ -29,7 +30,7 @@ def _words(project):
         top = project / name
         for path in [top] if top.is_file() else top.rglob("*"):
             if path.is_file() and not {"target", "guide"} & set(path.relative_to(project).parts):
-                words.update(re.findall(r"[A-Za-z_][\w-]*", path.read_text(errors="replace")))
+                words.update(re.findall(r"[A-Za-z_][\w-]*", path.read_text("utf-8", errors="replace")))
     return words
 
 
@@ -63,6 +64,7 @@ class Names:
             folder = (self.project / page.name).parent
             found = [(line, self._link(page, folder, target)) for line, target in page.links()]
             found += [(line, self._span(folder, span)) for line, span in page.spans()]
+            found += [(line, self._path(self.project, path)) for line, text in page.plain() for path in IN_TEXT.findall(text)]
             for line, problem in sorted(pair for pair in found if pair[1]):
                 yield f"{page.name}:{line}: {problem}"
 
@@ -113,6 +115,6 @@ class Names:
     def _item(self, crate, name):
         declared = re.compile(rf"\b(fn|struct|enum|const) {name}\b")
         sources = (self.project / "crates" / crate / "src").glob("*.rt")
-        if any(declared.search(path.read_text()) for path in sources):
+        if any(declared.search(path.read_text("utf-8")) for path in sources):
             return None
         return f"`{crate}::{name}`: crates/{crate}/src declares no {name}"

@@ -52,6 +52,14 @@ class Page:
         """Line and words of each piece of text between backquotes."""
         return _found(self.text, SPAN)
 
+    def plain(self):
+        """Line and words of the text without what stands between backquotes, and of the pictures."""
+        for number, line in enumerate(self.text, 1):
+            yield number, SPAN.sub("", line)
+        for block in self.blocks:
+            if block.kind == "text" and not block.name:
+                yield from enumerate(block.lines, block.line + 1)
+
     def links(self):
         return _found(self.text, LINK)
 

@@ -83,7 +83,7 @@ class Place:
         if path.exists():
             return "is there already: a page writes files of the reader's own, and shows parts of others as rattle or antt"
         path.parent.mkdir(parents=True, exist_ok=True)
-        path.write_text("".join(line + "\n" for line in lines))
+        path.write_text("".join(line + "\n" for line in lines), "utf-8")
         return None
 
     def run(self, words, **settings):
@@ -92,7 +92,14 @@ class Place:
         began = time.monotonic()
         try:
             done = subprocess.run(
-                ["bash", "-c", words], cwd=self.root, env=environment, stdin=subprocess.DEVNULL, capture_output=True, text=True, timeout=LONGEST_SECONDS
+                ["bash", "-c", words],
+                cwd=self.root,
+                env=environment,
+                stdin=subprocess.DEVNULL,
+                capture_output=True,
+                encoding="utf-8",
+                errors="replace",
+                timeout=LONGEST_SECONDS,
             )
         except subprocess.TimeoutExpired:
             return Said(1, "", f"not ended after {LONGEST_SECONDS} s", LONGEST_SECONDS)

@@ -46,7 +46,7 @@ def _exceptions(project, called):
         for name in (exception.command.split()[0], exception.file):
             if not os.access(project / name, os.X_OK):
                 yield f"tests/guide/exceptions.py: `{exception.command}`: {name} is not there, or cannot be run"
-        if exception.text not in (project / exception.file).read_text():
+        if exception.text not in (project / exception.file).read_text("utf-8"):
             yield f"tests/guide/exceptions.py: `{exception.command}` is left to {exception.file}, which has no `{exception.text}`"
 
 
