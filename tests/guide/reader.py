@@ -9,7 +9,7 @@ from dataclasses import dataclass
 from pathlib import Path
 
 LEFT_OUT = {".git", "target", "__pycache__"}
-PROVED = ("bin", "log", "obj", "rlib", "stamp")  # what rt keeps of proved crates; all else is made anew
+PROVED = ("bin", "log", "obj", "stamp")  # what rt keeps of proved crates; all else is made anew
 LONGEST_SECONDS = 900
 OWN_SETTINGS = ("CARGO_TARGET_DIR", "CINGHJALOFA_ARCHIVE")  # of whoever starts the suite, not of a reader
 
@@ -58,8 +58,16 @@ def is_shown(shown, printed):
     return re.fullmatch(pattern, "".join(lines)) is not None
 
 
+def _linked(source, target):
+    """The checked crates are many files, which rt reads only as long as no crate changes: links to them, where the disk is the same."""
+    try:
+        os.link(source, target)
+    except OSError:
+        shutil.copy2(source, target)
+
+
 class Place:
-    """`root` is the copy; files that a page names by `../` lie beside it."""
+    """`root` is the copy; files that a page names by `../` lie beside it. Its crates must be proved where they come from."""
 
     def __init__(self, project):
         self.above = Path(tempfile.mkdtemp(prefix="guide-"))
@@ -68,6 +76,7 @@ class Place:
         for name in PROVED:
             if (project / "target" / name).is_dir():
                 shutil.copytree(project / "target" / name, self.root / "target" / name, symlinks=True)
+        shutil.copytree(project / "target" / "rlib", self.root / "target" / "rlib", copy_function=_linked)
 
     def __enter__(self):
         return self
