@@ -73,7 +73,7 @@ Measured on: {results.processor}. {versions}.
   and writes the image.
 - **{by_value}**, is `memory_allocator`: the state goes in, is checked, copied and worked on, and
   comes back, and the caller keeps what came back. No image is read or written.
-- **{in_place}**, are those of `calls`: the work alone, on fields that are lent to them. Their contract
+- **{in_place}**, are `allocate_in`, `reserve_in` and `free_in`: the work alone, on fields that are lent to them. Their contract
   requires a sound state, and nothing looks whether it is: they serve callers that are proved themselves.
 
 The last two are inside the archive and have no door for a program. `bench/inner-archive` takes them from the module that Rattle

@@ -25,7 +25,7 @@ struct State {
     list_next: [u16; POOL],
 }
 
-/// `calls::Answer`: 0 and an address, or the number of a refusal.
+/// `answers::Answer`: 0 and an address, or the number of a refusal.
 #[repr(C)]
 struct Answer {
     number: u8,
@@ -146,7 +146,7 @@ impl ByValue {
     }
 }
 
-/// `calls::{allocate_in, reserve_in, free_in}`: the fields of the state are lent, and changed where they lie.
+/// `allocate_in`, `reserve_in` and `free_in`: the fields of the state are lent, and changed where they lie.
 pub struct InPlace(State);
 
 // SAFETY: the fields are apart; and the state is sound, as the calls require, since it began as `new` and they alone change it.

@@ -13,8 +13,8 @@ use Rattle.soundness.proofs.Exact.{passes-sound}
 use Rattle.chain.specs.Chain.{Ordered}
 use Rattle.listing.specs.Listing as in-place
 use Rattle.listing.specs.declared.Listed.{Listed}
-use Rattle.calls.specs.declared.Answer.the-variants.{InvalidEntry}
-use Rattle.calls.proofs.Calls.{chain-ordered}
+use Rattle.answers.specs.declared.Answer.the-variants.{InvalidEntry}
+use Rattle.answers.proofs.Endings.{chain-ordered}
 use Rattle.accounts.specs.Accounts.{counted, refused, totalOf, listedAnswer, listingOf, shownOf, Lists}
 use Rattle.accounts.specs.declared.Counted.{Counted}
 

@@ -1,5 +1,5 @@
 // What a state shows of itself: its total, and the listing of its ranges.
-use calls::Answer;
+use answers::Answer;
 use listing::Listed;
 use listing::list_in;
 use sound::is_sound;

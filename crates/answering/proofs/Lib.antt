@@ -1,5 +1,3 @@
--- Laws of what is printed: Texts on a call's answer, Tables on the ranges of two arrays, Listings on a state's listing, Replies on a line.
-mod Texts
-mod Tables
+-- Laws of what is printed: Listings on a state's listing, Replies on a line.
 mod Listings
 mod Replies

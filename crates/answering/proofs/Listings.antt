@@ -2,35 +2,48 @@
 use mathlib.Core.Path.{_≡_, refl, sym, ap, _∙_}
 use mathlib.Core.Logic.{_≢_}
 use mathlib.Core.Bool.{Bool, true, false, cond}
-use mathlib.Core.List.{List, _++_, map}
-use Prim.Native.Nat.{ℕ, _+_, _*_, _^_, _<_, _≤_}
+use mathlib.Core.List.{List, [], _∷_, _++_, map, append-assoc, append-nil}
+use Prim.Native.Nat.{ℕ, zero, suc, _+_, _*_, _^_, _<_, _≤_}
 use native.Mathlib.Omega.{arith}
 use borrow.Author.Tests.{le-ltb}
-use lib.ListN.{length, drop}
+use lib.ListN.{length, drop, getD}
 use Rattle.lists.specs.Links.{none}
 use Rattle.rules.specs.Rules as rules
-use Rattle.rules.specs.Rules.{startOf}
+use Rattle.rules.specs.Rules.{Range, startOf}
 use Rattle.state.specs.Sound.{bookOf}
 use Rattle.state.specs.declared.MemoryAllocator.{MemoryAllocator}
 use Rattle.sound.specs.IsSound.{isSound}
 use Rattle.soundness.specs.Paragraph.{Sized}
-use Rattle.calls.specs.Answers.{numberOf}
+use Rattle.answers.specs.Answers.{numberOf}
 use Rattle.listing.specs.Listing.{lastOf, listedOf, shown}
 use Rattle.listing.proofs.Walk.{few}
 use Rattle.accounts.specs.Accounts.{counted, totalOf, listingOf, shownOf, Lists}
 use Rattle.accounts.specs.declared.Counted.{Counted}
 use Rattle.accounts.proofs.Shows.{ordered}
-use Rattle.texts.specs.Answers.{noText, listText, Puts}
+use Rattle.texts.specs.Answers.{rangeText, noText, listText, Puts}
 use Rattle.texts.proofs.Buffers.{at-most-48}
-use Rattle.answering.specs.Script.{line, room, rangesText, listingText, tableText, PutsWithin}
-use Rattle.answering.proofs.Tables.{rows-ranges}
+use Rattle.replies.specs.Replies.{line, rows, tableText, PutsWithin}
+use Rattle.answering.specs.Script.{room, rangesText, listingText}
+
+rows-cons : (k a b : ℕ) (ss ls : List ℕ) → rows (suc k) (a ∷ ss) (b ∷ ls) ≡ rangeText a b ++ rows k ss ls
+unfolding rows
+rows-cons zero a b ss ls = sym (append-nil (rangeText a b))
+rows-cons (suc k) a b ss ls = rw (rows-cons k a b ss ls) (append-assoc (rangeText a b) (rows k ss ls) (rangeText (getD ss k 0) (getD ls k 0)))
+
+-- a chain's starts and last bytes, with anything behind them
+rows-ranges : (c : List Range) (x y : List ℕ) → rows (length c) (map startOf c ++ x) (map lastOf c ++ y) ≡ rangesText c
+unfolding rows rangesText
+rows-ranges [] x y = refl
+rows-ranges (r ∷ c) x y =
+    rows-cons (length c) (r .start) (r .last) (map startOf c ++ x) (map lastOf c ++ y)
+    ∙ ap (λ (t : List ℕ). rangeText (r .start) (r .last) ++ t) (rows-ranges c x y)
 
 module _ (n : ℕ) (s : MemoryAllocator) (held : Counted) (is : held ≡ totalOf n s) (m : ℕ) (number : m ≡ numberOf (held .answer)) where
   number-is : m ≡ cond (isSound n s) 0 2
   unfolding totalOf
   number-is = number ∙ ap (λ (k : Counted). numberOf (k .answer)) is ∙ go (isSound n s)
     where
-      go : (t : Bool) → numberOf (cond t (counted (rules.total (bookOf n s))) (record { answer = Rattle.calls.specs.declared.Answer.the-variants.InvalidEntry; value = 0 }) .answer) ≡ cond t 0 2
+      go : (t : Bool) → numberOf (cond t (counted (rules.total (bookOf n s))) (record { answer = Rattle.answers.specs.declared.Answer.the-variants.InvalidEntry; value = 0 }) .answer) ≡ cond t 0 2
       go true = refl
       go false = refl
 

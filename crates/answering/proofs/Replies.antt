@@ -11,7 +11,8 @@ use Rattle.memory_allocator.specs.Promises.{freeOf, allocateOf, reserveOf}
 use Rattle.memory_allocator.specs.declared.Outcome.{Outcome}
 use Rattle.lines.specs.declared.parse.Line.{Line}
 use Rattle.lines.specs.declared.parse.Line.the-variants as Say
-use Rattle.answering.specs.Script.{room, roomy, movedText, placedText, textOf, stateAfter, Says, Answers}
+use Rattle.answering.specs.Script.{room, roomy, textOf, stateAfter, Says, Answers}
+use Rattle.replies.specs.Replies.{movedText, placedText}
 use Rattle.answering.specs.declared.Answered.{Answered}
 
 no : true ≡ false → ⊥

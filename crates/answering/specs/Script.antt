@@ -1,32 +1,23 @@
 -- Document 01's script program: the text that a line prints, as bytes, and the state that it leaves. n is the number of records. Assumes nothing.
-use Prim.Native.Nat.{ℕ, zero, suc, _+_, _*_, _≤_}
+use Prim.Native.Nat.{ℕ, _+_, _*_, _≤_}
 use mathlib.Core.Bool.{Bool, true, cond}
 use mathlib.Core.List.{List, [], _∷_, _++_}
 use mathlib.Core.Path.{_≡_}
-use lib.Dec.{eqb, leb}
-use lib.ListN.{length, getD}
+use lib.Dec.{leb}
+use lib.ListN.{length}
 use Rattle.rules.specs.Rules as rules
 use Rattle.rules.specs.Rules.{Range}
 use Rattle.state.specs.Sound.{bookOf}
 use Rattle.state.specs.declared.MemoryAllocator.{MemoryAllocator}
 use Rattle.sound.specs.IsSound.{isSound}
-use Rattle.calls.specs.Answers.{numberOf, addressOf}
-use Rattle.calls.specs.declared.Answer.{Answer}
 use Rattle.memory_allocator.specs.Promises.{allocateOf, reserveOf, freeOf}
-use Rattle.texts.specs.Answers.{okText, okAt, noText, badText, rangeText, listText, written, past, Puts}
+use Rattle.texts.specs.Answers.{noText, badText, rangeText, listText, written, past}
 use Rattle.lines.specs.declared.parse.Line.{Line}
 use Rattle.lines.specs.declared.parse.Line.the-variants as Say
 use Rattle.answering.specs.declared.Answered.{Answered}
+use Rattle.replies.specs.Replies.{movedText, placedText, line, PutsWithin}
 
 -- ---- the texts
-
--- a call that hands out no address: `ok`, or `no` and the number
-unfoldable pub movedText : Answer → List ℕ
-movedText k = cond (eqb (numberOf k) 0) okText (noText (numberOf k))
-
--- a call that hands one out: `ok` and the address, or `no` and the number
-unfoldable pub placedText : Answer → List ℕ
-placedText k = cond (eqb (numberOf k) 0) (okAt (addressOf k)) (noText (numberOf k))
 
 -- one line a range
 unfoldable pub rangesText : List Range → List ℕ
@@ -55,21 +46,12 @@ stateAfter n s Say.Bad = s
 
 -- ---- a line's text in a buffer
 
--- no line of a text is longer
-abbrev pub line : ℕ
-line = 48
-
 -- enough for the head of a listing and n ranges
 abbrev pub room : ℕ → ℕ
 room n = line * (n + 1)
 
 abbrev pub roomy : ℕ → List ℕ → ℕ → Bool
 roomy n out at = leb (at + room n) (length out)
-
--- the text t, which is no longer than `most`
-pub record PutsWithin (most : ℕ) (t out : List ℕ) (at : ℕ) (out′ : List ℕ) (r : ℕ) : Type 0 where
-  pub short : length t ≤ most
-  pub puts : Puts t out at out′ r
 
 -- the state s, and the text t
 pub record Says (n : ℕ) (s : MemoryAllocator) (t out : List ℕ) (at : ℕ) (r : Answered) (out′ : List ℕ) : Type 0 where
@@ -82,13 +64,3 @@ pub record Answers (n : ℕ) (s : MemoryAllocator) (l : Line) (out : List ℕ) (
   pub bytes : out′ ≡ cond (roomy n out at) (written (textOf n s l) out at) out
   pub next : r .next ≡ cond (roomy n out at) (past (textOf n s l) out at) at
   pub whole : roomy n out at ≡ true → length (textOf n s l) ≤ room n
-
--- ---- what is printed of two arrays
-
--- the first k ranges, from their starts and last bytes
-unfoldable pub rows : ℕ → List ℕ → List ℕ → List ℕ
-rows zero starts lasts = []
-rows (suc k) starts lasts = rows k starts lasts ++ rangeText (getD starts k 0) (getD lasts k 0)
-
-unfoldable pub tableText : ℕ → ℕ → List ℕ → List ℕ → List ℕ
-tableText count total starts lasts = listText count total ++ rows count starts lasts

@@ -1,6 +1,4 @@
 // The answer to one line of the script: the call is made, and its text goes into a buffer.
-pub mod print;
-
 use accounts::listing;
 use accounts::total;
 use lines::parse::Line;
@@ -9,11 +7,11 @@ use memory_allocator::Outcome;
 use memory_allocator::allocate;
 use memory_allocator::free;
 use memory_allocator::reserve_memory;
-use print::ROOM;
-use print::number_of;
-use print::put_moved;
-use print::put_placed;
-use print::put_table;
+use replies::ROOM;
+use replies::number_of;
+use replies::put_moved;
+use replies::put_placed;
+use replies::put_table;
 use state::Address;
 use state::MemoryAllocator;
 use state::POOL;
@@ -25,7 +23,8 @@ ghost use lib.Dec.{leb};
 ghost use lib.ListN.{length};
 ghost use Rattle.state.specs.Shown.{pool};
 ghost use Rattle.lines.specs.Script.{lineOf};
-ghost use Rattle.answering.specs.Script.{room, PutsWithin, movedText, placedText, listingText, Says, Answers};
+ghost use Rattle.answering.specs.Script.{room, listingText, Says, Answers};
+ghost use Rattle.replies.specs.Replies.{PutsWithin, movedText, placedText};
 
 // The state that a line leaves, and the place after its text.
 pub struct Answered {

@@ -11,7 +11,7 @@ use Rattle.rules.specs.Rules.{top, size, Book, empty, span, listing, freeAt, Ca
 use Rattle.state.specs.State.{stateOf}
 use Rattle.state.specs.Sound.{bookOf, SoundState}
 use Rattle.state.specs.declared.MemoryAllocator.{MemoryAllocator}
-use Rattle.calls.specs.Answers.{addressOf}
+use Rattle.answers.specs.Answers.{addressOf}
 use Rattle.memory_allocator.specs.Histories as history
 use Rattle.memory_allocator.specs.Histories.{voucherOf}
 use Rattle.memory_allocator.specs.Promises.{made}

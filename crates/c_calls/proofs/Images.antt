@@ -13,9 +13,9 @@ use Rattle.state.specs.declared.MemoryAllocator.{MemoryAllocator}
 use Rattle.state.proofs.States.{state-holds}
 use Rattle.state.proofs.Book.{holds-sound}
 use Rattle.soundness.proofs.Exact.{sound-sized}
-use Rattle.calls.specs.Answers.{numberOf}
-use Rattle.calls.specs.declared.Answer.{Answer}
-use Rattle.calls.specs.declared.Answer.the-variants.{Accepted, NoEntry, InvalidEntry, NoMemory, InvalidRequest}
+use Rattle.answers.specs.Answers.{numberOf}
+use Rattle.answers.specs.declared.Answer.{Answer}
+use Rattle.answers.specs.declared.Answer.the-variants.{Accepted, NoEntry, InvalidEntry, NoMemory, InvalidRequest}
 use Rattle.memory_allocator.specs.Histories.{after, voucherOf, vouchers}
 use Rattle.memory_allocator.specs.Promises.{made}
 use Rattle.memory_allocator.specs.declared.Outcome.{Outcome}

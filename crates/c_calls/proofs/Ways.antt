@@ -15,9 +15,9 @@ use Rattle.state.specs.Sound.{bookOf, SoundState}
 use Rattle.state.specs.declared.MemoryAllocator.{MemoryAllocator}
 use Rattle.sound.specs.IsSound.{isSound}
 use Rattle.soundness.proofs.Exact.{sound-passes}
-use Rattle.calls.specs.Answers.{addressOf}
-use Rattle.calls.specs.declared.Answer.{Answer}
-use Rattle.calls.specs.declared.Answer.the-variants.{Accepted, NoEntry, InvalidEntry, NoMemory, InvalidRequest}
+use Rattle.answers.specs.Answers.{addressOf}
+use Rattle.answers.specs.declared.Answer.{Answer}
+use Rattle.answers.specs.declared.Answer.the-variants.{Accepted, NoEntry, InvalidEntry, NoMemory, InvalidRequest}
 use Rattle.memory_allocator.specs.Promises.{held}
 use Rattle.memory_allocator.specs.Promises.{made}
 use Rattle.memory_allocator.specs.declared.Outcome.{Outcome}

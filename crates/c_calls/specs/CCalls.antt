@@ -8,9 +8,9 @@ use lib.IntN.{ℤ, pos, negℤ}
 use lib.ListN.{length}
 use Rattle.rules.specs.Rules.{top, empty, Call, Free, Allocate, Reserve}
 use Rattle.state.specs.State.{stateOf}
-use Rattle.calls.specs.Answers.{numberOf, addressOf}
-use Rattle.calls.specs.declared.Answer.{Answer}
-use Rattle.calls.specs.declared.Answer.the-variants.{Accepted, InvalidEntry}
+use Rattle.answers.specs.Answers.{numberOf, addressOf}
+use Rattle.answers.specs.declared.Answer.{Answer}
+use Rattle.answers.specs.declared.Answer.the-variants.{Accepted, InvalidEntry}
 use Rattle.memory_allocator.specs.Promises.{made}
 use Rattle.memory_allocator.specs.declared.Outcome.{Outcome}
 use Rattle.image_parts.specs.Layout.{Layout, imageSize}

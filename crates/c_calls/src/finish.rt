@@ -1,11 +1,11 @@
 // What every C call does with an outcome.
-use calls::Answer;
+use answers::Answer;
 use image::write_state;
 use memory_allocator::Outcome;
 ghost use mathlib.Core.Path.{_≡_};
 ghost use Prim.Native.Nat.{_<_};
 ghost use Rattle.rules.specs.Rules.{top};
-ghost use Rattle.calls.specs.Answers.{addressOf};
+ghost use Rattle.answers.specs.Answers.{addressOf};
 ghost use Rattle.image_parts.specs.Layout.{current};
 ghost use Rattle.c_calls.specs.CCalls.{signedOf, returned, finished, Finishes};
 

@@ -38,8 +38,8 @@ use Rattle.state.specs.declared.MemoryAllocator.{MemoryAllocator}
 use Rattle.memory_allocator.specs.declared.Outcome.{Outcome}
 use Rattle.state.proofs.MemoryAllocator as T
 use Rattle.state.proofs.MemoryAllocator.Laws as T′
-use Rattle.calls.proofs.Answer as N
-use Rattle.calls.proofs.Answer.Laws as N′
+use Rattle.answers.proofs.Answer as N
+use Rattle.answers.proofs.Answer.Laws as N′
 use Rattle.memory_allocator.proofs.Outcome as O
 use Rattle.memory_allocator.proofs.Outcome.Laws as O′
 use Rattle.doors.proofs.Passed.{Passed}

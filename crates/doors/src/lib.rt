@@ -1,5 +1,5 @@
 // The allocator lent in place: each door calls the core, which takes it by value.
-use calls::Answer;
+use answers::Answer;
 use state::Address;
 use state::MemoryAllocator;
 ghost use mathlib.Core.Path.{_≡_};

@@ -2,10 +2,10 @@
 use crate::ImageAnswer;
 use crate::Reading;
 use bytes_be::read_be;
-use image_parts::columns::are_bits;
-use image_parts::columns::read_flags;
-use image_parts::columns::read_links;
-use image_parts::columns::read_numbers;
+use image_columns::are_bits;
+use image_columns::read_flags;
+use image_columns::read_links;
+use image_columns::read_numbers;
 use image_parts::layout::ENABLED;
 use image_parts::layout::END;
 use image_parts::layout::FIRST;

@@ -1,5 +1,4 @@
-// The parts of an image, each in its own bytes: links, a record, the head, and the columns of a field that every record has.
-pub mod columns;
+// The parts of an image, each in its own bytes: its layout, links, a record, the head.
 pub mod head;
 pub mod layout;
 pub mod links;

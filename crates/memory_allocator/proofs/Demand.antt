@@ -19,7 +19,7 @@ use Rattle.state.proofs.Book.{book-back, holds-sound}
 use Rattle.sound.specs.IsSound.{isSound}
 use Rattle.soundness.specs.Paragraph.{Sized}
 use Rattle.soundness.proofs.Exact.{passes-sound}
-use Rattle.calls.specs.Answers.{numberOf, addressOf}
+use Rattle.answers.specs.Answers.{numberOf, addressOf}
 use Rattle.memory_allocator.specs.Promises.{made, judged, held}
 use Rattle.memory_allocator.specs.Histories.{after, voucherOf, vouchers, freeIn}
 use Rattle.memory_allocator.specs.declared.Outcome as result

@@ -12,9 +12,9 @@ use Rattle.state.proofs.Book.{sound-holds}
 use Rattle.sound.specs.IsSound.{isSound}
 use Rattle.soundness.specs.Paragraph.{Sized}
 use Rattle.soundness.proofs.Exact.{passes-sound}
-use Rattle.calls.specs.Answers.{Answers, numberOf, addressOf}
-use Rattle.calls.specs.declared.Answer as answer
-use Rattle.calls.specs.declared.Answer.the-variants.{Accepted, NoEntry, InvalidEntry, NoMemory, InvalidRequest}
+use Rattle.answers.specs.Answers.{Answers, numberOf, addressOf}
+use Rattle.answers.specs.declared.Answer as answer
+use Rattle.answers.specs.declared.Answer.the-variants.{Accepted, NoEntry, InvalidEntry, NoMemory, InvalidRequest}
 use Rattle.memory_allocator.specs.Promises.{answerOf, held, judged}
 use Rattle.memory_allocator.specs.declared.Outcome.{Outcome}
 

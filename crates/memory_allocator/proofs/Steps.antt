@@ -15,7 +15,7 @@ use Rattle.state.proofs.States.{state-holds}
 use Rattle.state.proofs.Book.{book-back, holds-sound}
 use Rattle.sound.specs.IsSound.{isSound}
 use Rattle.soundness.proofs.Exact.{sound-passes}
-use Rattle.calls.specs.Answers.{numberOf, addressOf}
+use Rattle.answers.specs.Answers.{numberOf, addressOf}
 use Rattle.memory_allocator.specs.Promises.{answerOf, held, judged, made}
 use Rattle.memory_allocator.specs.Histories.{after, voucherOf, vouchers}
 use Rattle.memory_allocator.specs.declared.Outcome as result

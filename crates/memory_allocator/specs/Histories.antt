@@ -5,7 +5,7 @@ use mathlib.Core.List.{List, [], _∷_}
 use Rattle.rules.specs.Rules.{Call, Voucher, freeAt}
 use Rattle.state.specs.Sound.{bookOf}
 use Rattle.state.specs.declared.MemoryAllocator.{MemoryAllocator}
-use Rattle.calls.specs.Answers.{numberOf, addressOf}
+use Rattle.answers.specs.Answers.{numberOf, addressOf}
 use Rattle.memory_allocator.specs.Promises.{made}
 use Rattle.memory_allocator.specs.declared.Outcome.{Outcome}
 

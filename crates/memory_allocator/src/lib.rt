@@ -1,5 +1,5 @@
 // The allocator: its state goes in by value and comes back by value.
-use calls::Answer;
+use answers::Answer;
 use requests::Request;
 use requests::serve_in;
 use sound::is_sound;

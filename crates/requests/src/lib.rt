@@ -1,15 +1,15 @@
 // A request is one of the three calls with its numbers; here it is served in place.
-use calls::Answer;
-use calls::allocate_in;
-use calls::free_in;
-use calls::reserve_in;
+use allocating::allocate_in;
+use answers::Answer;
+use freeing::free_in;
+use reserving::reserve_in;
 use state::Address;
 use state::LISTS;
 use state::POOL;
 ghost use Rattle.rules.specs.Rules.{Book, step};
 ghost use Rattle.state.specs.Shown.{pool};
 ghost use Rattle.state.specs.State.{arrays, Holds};
-ghost use Rattle.calls.specs.Answers.{Answers};
+ghost use Rattle.answers.specs.Answers.{Answers};
 ghost use Rattle.requests.specs.Requests.{callOf};
 
 // Start, size and order, as far as the call has them.

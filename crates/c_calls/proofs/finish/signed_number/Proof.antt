@@ -3,8 +3,8 @@ use mathlib.Core.Path.{ap, sym, subst, _∙_}
 use mir.Syntax.{w64}
 use mir.Facts.{toZ-pos}
 use Rattle.rules.specs.Rules.{top}
-use Rattle.calls.specs.Answers.{addressOf}
-use Rattle.calls.specs.declared.Answer.{Answer}
+use Rattle.answers.specs.Answers.{addressOf}
+use Rattle.answers.specs.declared.Answer.{Answer}
 use Rattle.c_calls.specs.CCalls.{signedOf}
 use borrow.Author.Needs.{needs}
 use Rattle.c_calls.proofs.finish.signed_number.Statement.{statement}

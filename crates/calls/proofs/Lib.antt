@@ -1,2 +1,0 @@
--- Laws of the calls.
-pub mod Calls

@@ -1,0 +1,93 @@
+use Prim.Native.Nat.{_+_, _*_, _-_, _≤_}
+use mathlib.Core.Path.{_≡_, refl}
+use native.Mathlib.Omega.{arith}
+use lib.ListN.{length, length-take, length-drop}
+use Rattle.image_parts.specs.Layout.{word}
+use Rattle.image_parts.specs.Read.{numberIn, numbersIn}
+use Rattle.image_parts.proofs.Loops.{Filling, fill-start, fill-next, fill-end, part-read}
+use Rattle.image_columns.proofs.read_numbers.Statement.{statement}
+use Rattle.image_columns.proofs.read_numbers.Tie as tie
+
+abbrev Inv-loop : tie.InvT-loop
+Inv-loop image at apart numbers₀ i₀ i-end numbers i = (i-end ≡ length numbers₀) × Filling (λ j. numberIn image (at + apart * j) word) (length numbers₀) i numbers
+
+abbrev μ-loop : tie.MeasureT-loop
+μ-loop image at apart numbers₀ i₀ i-end numbers i = i-end - i
+
+loop-holds : tie.Need-loop-holds Inv-loop μ-loop
+loop-holds c = (refl, fill-start _ _ _ refl)
+
+-- the field lies in the image
+room : (c : tie.In-loop Inv-loop μ-loop) → c .before .before .before .before .args .at + c .before .before .before .before .args .apart * c .before .loop .i + word ≤ length (c .before .before .before .before .args .image .now)
+room c = c .before .before .before .before .pre (c .before .loop .i) (omega arith)
+
+mul-from : tie.Need-mul-from Inv-loop μ-loop
+mul-from c = omega (arith, room c)
+
+add-from : tie.Need-add-from Inv-loop μ-loop
+add-from c = omega (arith, room c)
+
+add-read-be : tie.Need-add-read-be Inv-loop μ-loop
+add-read-be c = omega (arith, room c)
+
+sub-read-be : tie.Need-sub-read-be Inv-loop μ-loop
+sub-read-be c = omega arith
+
+part-read-be-start : tie.Need-part-read-be-start Inv-loop μ-loop
+part-read-be-start c = omega (arith, room c)
+
+part-read-be-end : tie.Need-part-read-be-end Inv-loop μ-loop
+part-read-be-end c = omega (arith, room c)
+
+read-be-requires : tie.Need-read-be-requires Inv-loop μ-loop
+read-be-requires c κs = simp (length-take, length-drop) (omega arith)
+
+mul-numbers : tie.Need-mul-numbers Inv-loop μ-loop
+mul-numbers c = omega arith
+
+slice-write-numbers : tie.Need-slice-write-numbers Inv-loop μ-loop
+slice-write-numbers c = omega arith
+
+add-i : tie.Need-add-i Inv-loop μ-loop
+add-i c = omega arith
+
+loop-less : tie.Need-loop-less Inv-loop μ-loop
+loop-less c = omega arith
+
+loop-again : tie.Need-loop-again Inv-loop μ-loop
+loop-again c =
+    let l = c .before .before .before .loop in
+    let start = c .before .before .before .before .before .before .args in
+    let x = part-read (start .image .now) (start .at + start .apart * l .i) word (room (c .before .before)) _ (c .read-be .ensures .0) in
+    (l .inv .0, fill-next _ _ (l .i) (l .numbers) _ (omega arith) x (l .inv .1))
+
+same-length : tie.Need-same-length Inv-loop μ-loop
+same-length c = omega arith
+
+returns : tie.Need-returns Inv-loop μ-loop
+unfolding numbersIn
+returns c =
+    let l = c .before .loop in
+    fill-end _ _ (l .i) (l .numbers) (omega arith) (l .inv .1)
+
+pub read-numbers-spec : {M : Type 1} → statement M
+read-numbers-spec =
+    tie.close
+    (tie.spec
+    Inv-loop
+    μ-loop
+    loop-holds
+    mul-from
+    add-from
+    add-read-be
+    sub-read-be
+    part-read-be-start
+    part-read-be-end
+    read-be-requires
+    mul-numbers
+    slice-write-numbers
+    add-i
+    loop-less
+    loop-again
+    same-length
+    returns)

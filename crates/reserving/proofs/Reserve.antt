@@ -1,0 +1,79 @@
+-- The rule of `reserve`, line by line. Assumes nothing.
+use Prim.Native.Nat.{ℕ, suc, _+_, _-_, _<_, _≤_}
+use mathlib.Core.Bool.{true, false, cond, _&&_}
+use mathlib.Core.Logic.{_≢_}
+use mathlib.Core.Path.{_≡_, ap, _∙_}
+use lib.ListN.{length}
+use lib.Dec.{leb, eqb, leb→le}
+use native.Mathlib.Omega.{arith}
+use borrow.Author.Tests.{eq-eqb, ne-eqb, lt-ltb, le-ltb}
+use Rattle.rules.specs.Rules.{top, Range, Book, Answer, accepted, refused, refuse, reserve, reserveFrom, total, taken, whole, contains, up, down, find}
+use Rattle.laws.proofs.Lists.{and-l, and-r}
+use Rattle.laws.proofs.Facts.{up-plain, down-plain}
+use Rattle.state.specs.State.{Holds}
+use Rattle.chain.specs.Chain.{Chosen}
+use Rattle.state.specs.declared.RecordIndex.{RecordIndex}
+use Rattle.state.specs.declared.MemoryAllocator.{MemoryAllocator}
+use Rattle.links.specs.Hits.{hitOf}
+use Rattle.links.specs.declared.Hit.the-variants.{At, Nothing}
+use Rattle.take.specs.Take.{Asks, refuses}
+use Rattle.answers.proofs.Endings.{hit-at, hit-nothing, chain-ordered}
+
+module _ (n s z o : ℕ) (b : Book) where
+  pub reserve-zero : z ≡ 0 → reserve n s z o b ≡ refused 4 b
+  unfolding reserve refuse
+  reserve-zero e = rw (eq-eqb z 0 e)
+
+  pub reserve-order : z ≢ 0 → 63 < o → reserve n s z o b ≡ refused 4 b
+  unfolding reserve refuse
+  reserve-order e h = rw (ne-eqb z 0 e, lt-ltb 63 o h)
+
+  pub reserve-few : z ≢ 0 → o ≤ 63 → total b < z → reserve n s z o b ≡ refused 3 b
+  unfolding reserve refuse
+  reserve-few e h g = rw (ne-eqb z 0 e, le-ltb 63 o h, lt-ltb (total b) z g)
+
+  pub reserve-past : z ≢ 0 → o ≤ 63 → z ≤ total b → top < s + z → reserve n s z o b ≡ refused 4 b
+  unfolding reserve refuse
+  reserve-past e h g f = rw (ne-eqb z 0 e, le-ltb 63 o h, le-ltb (total b) z g, lt-ltb top (s + z) f)
+
+-- with order 0
+pub reserve-plain : (n s z : ℕ) (b : Book) → z ≢ 0 → z ≤ total b → s + z ≤ top → reserve n s z 0 b ≡ reserveFrom n s (s + z) b (find (contains s (s + z)) (b .chain))
+unfolding reserve refuse
+reserve-plain n s z b e g f =
+    let d : up 0 (s + z) - down 0 s ≤ total b = let p = up-plain (s + z) in let q = down-plain s in omega arith in
+    rw (ne-eqb z 0 e, le-ltb (total b) z g, le-ltb top (s + z) f, le-ltb (total b) (up 0 (s + z) - down 0 s) d, up-plain (s + z), down-plain s)
+
+module _ (n a t : ℕ) (b : Book) (some-byte : a < t) where
+  abbrev rule : Answer
+  rule = reserveFrom n a t b (find (contains a t) (b .chain))
+
+  pub not-inside : Nothing ≡ hitOf (find (contains a t) (b .chain)) → rule ≡ refused 4 b
+  unfolding reserveFrom
+  not-inside q = ap (reserveFrom n a t b) (hit-nothing (contains a t) (b .chain) q)
+
+  pub record Inside (s : MemoryAllocator) (i : ℕ) : Type 0 where
+    pub range : Range
+    pub asks : Asks n b s i a t range
+    pub chosen : Chosen n (b .chain) (s .start) (s .end) (s .next) (s .«first_entry» .0) i range
+    pub only : (whole a t range && eqb (length (b .chain)) 1) ≡ true → rule ≡ refused 1 b
+    pub answer : (whole a t range && eqb (length (b .chain)) 1) ≡ false → rule ≡ cond (refuses n b range a t) (refused 1 b) (accepted 0 (taken n range a t b))
+
+  pub inside : (s : MemoryAllocator) (j : RecordIndex) → Holds n b s → At j ≡ hitOf (find (contains a t) (b .chain)) → Inside s (j .0)
+  unfolding reserveFrom refuse
+  inside s j hs q =
+      let w = hit-at (contains a t) (b .chain) j q in
+      let r = w .0 in
+      record {
+        range = r;
+        asks = record {
+          holds = hs;
+          member = w .1;
+          number = w .3;
+          from = leb→le (r .start) a (and-l (leb (r .start) a) (leb t (suc (r .last))) (w .2));
+          some-byte = some-byte;
+          to = leb→le t (suc (r .last)) (and-r (leb (r .start) a) (leb t (suc (r .last))) (w .2));
+        };
+        chosen = record { ordered = chain-ordered n b s hs; member = w .1; number = w .3 };
+        only = λ e. ap (reserveFrom n a t b) (w .4) ∙ rw e;
+        answer = λ e. ap (reserveFrom n a t b) (w .4) ∙ rw e;
+      }

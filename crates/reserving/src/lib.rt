@@ -1,0 +1,134 @@
+// `reserve_memory`, in place.
+use align::align_address_and_size;
+use answers::Answer;
+use chain::is_whole_chain;
+use chain::search_entry_containing_address;
+use entries::Moving;
+use links::Hit;
+use state::Address;
+use state::LISTS;
+use state::MAX_ORDER;
+use state::POOL;
+use state::RecordIndex;
+use state::TOP;
+use take::define_used_memory;
+ghost use Prim.Native.Nat.{_+_, _<_, _≤_};
+ghost use Rattle.rules.specs.Rules.{top, Book, reserve, reserveFrom, find, contains};
+ghost use Rattle.state.specs.Shown.{pool};
+ghost use Rattle.state.specs.State.{arrays, Holds};
+ghost use Rattle.answers.specs.Answers.{Answers};
+
+// The bytes from `address` to before `past` are taken, if one range has them all and others remain.
+pub fn reserve_piece(
+    total: &mut u64,
+    first: &mut u16,
+    heads: &mut [u16; LISTS],
+    start: &mut [u64; POOL],
+    end: &mut [u64; POOL],
+    enabled: &mut [bool; POOL],
+    previous: &mut [u16; POOL],
+    next: &mut [u16; POOL],
+    lprev: &mut [u16; POOL],
+    lnext: &mut [u16; POOL],
+    address: Address,
+    past: Address,
+) -> Answer
+    requires { ⌜ ((b : Book) × Holds pool b (arrays (now total) (now first) (now heads) (now start) (now end) (now enabled) (now previous) (now next) (now lprev) (now lnext))) ⌝ }
+    requires { ⌜ (address .0 < past .0) × (past .0 ≤ top) ⌝ }
+    ensures { λ k. ⌜ ((b : Book) → Holds pool b (arrays (now (total .entry)) (now (first .entry)) (now (heads .entry)) (now (start .entry)) (now (end .entry)) (now (enabled .entry)) (now (previous .entry)) (now (next .entry)) (now (lprev .entry)) (now (lnext .entry))) → Answers pool (reserveFrom pool (address .0) (past .0) b (find (contains (address .0) (past .0)) (b .chain))) k (arrays (now (total .exit)) (now (first .exit)) (now (heads .exit)) (now (start .exit)) (now (end .exit)) (now (enabled .exit)) (now (previous .exit)) (now (next .exit)) (now (lprev .exit)) (now (lnext .exit)))) ⌝ }
+{
+    let hit = search_entry_containing_address(start, end, next, RecordIndex(*first), address, past);
+    let Hit::At(i) = hit else {
+        return Answer::InvalidRequest;
+    };
+    if is_whole_chain(start, end, next, RecordIndex(*first), i, address, past) {
+        return Answer::NoEntry;
+    }
+    let moving = define_used_memory(
+        total,
+        first,
+        heads,
+        start,
+        end,
+        enabled,
+        previous,
+        next,
+        lprev,
+        lnext,
+        i,
+        address,
+        past,
+    );
+    match moving {
+        Moving::Done => Answer::Accepted(Address(0)),
+        Moving::NoRecord => Answer::NoEntry,
+    }
+}
+
+// A piece, widened to multiples of 2^order, is taken.
+pub fn reserve_in(
+    total: &mut u64,
+    first: &mut u16,
+    heads: &mut [u16; LISTS],
+    start: &mut [u64; POOL],
+    end: &mut [u64; POOL],
+    enabled: &mut [bool; POOL],
+    previous: &mut [u16; POOL],
+    next: &mut [u16; POOL],
+    lprev: &mut [u16; POOL],
+    lnext: &mut [u16; POOL],
+    address: Address,
+    size: u64,
+    order: u64,
+) -> Answer
+    requires { ⌜ ((b : Book) × Holds pool b (arrays (now total) (now first) (now heads) (now start) (now end) (now enabled) (now previous) (now next) (now lprev) (now lnext))) ⌝ }
+    ensures { λ k. ⌜ ((b : Book) → Holds pool b (arrays (now (total .entry)) (now (first .entry)) (now (heads .entry)) (now (start .entry)) (now (end .entry)) (now (enabled .entry)) (now (previous .entry)) (now (next .entry)) (now (lprev .entry)) (now (lnext .entry))) → Answers pool (reserve pool (address .0) size order b) k (arrays (now (total .exit)) (now (first .exit)) (now (heads .exit)) (now (start .exit)) (now (end .exit)) (now (enabled .exit)) (now (previous .exit)) (now (next .exit)) (now (lprev .exit)) (now (lnext .exit)))) ⌝ }
+{
+    if size == 0 {
+        return Answer::InvalidRequest;
+    }
+    if MAX_ORDER < order {
+        return Answer::InvalidRequest;
+    }
+    if *total < size {
+        return Answer::NoMemory;
+    }
+    if TOP < address.0 {
+        return Answer::InvalidRequest;
+    }
+    if TOP - address.0 < size {
+        return Answer::InvalidRequest;
+    }
+    if order != 0 {
+        let wide = align_address_and_size(address, size, order);
+        return reserve_in(
+            total,
+            first,
+            heads,
+            start,
+            end,
+            enabled,
+            previous,
+            next,
+            lprev,
+            lnext,
+            wide.start,
+            wide.size,
+            0,
+        );
+    }
+    reserve_piece(
+        total,
+        first,
+        heads,
+        start,
+        end,
+        enabled,
+        previous,
+        next,
+        lprev,
+        lnext,
+        address,
+        Address(address.0 + size),
+    )
+}
