@@ -65,8 +65,8 @@ pub fn serve_sound(s: MemoryAllocator, request: Request) -> Outcome
     }
 }
 
-// Any request.
-pub fn serve(s: MemoryAllocator, request: Request) -> Outcome
+// A request of any state.
+fn serve(s: MemoryAllocator, request: Request) -> Outcome
     ensures { λ r. ⌜ r ≡ made pool s (callOf request) ⌝ }
 {
     if is_sound(s) {
