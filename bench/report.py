@@ -78,7 +78,7 @@ Measured on: {results.processor}. {versions}.
 
 The last two are inside the archive and have no door for a program. `bench/inner-archive` takes them from the module that Rattle
 makes of `c_calls`, leaves their code as it is, and gives them names that can be linked; of the by-value core these are the check and
-the serving of a sound state, put together as `memory_allocator::serve` does. This glue, with its declarations in
+the serving of a sound state, put together as `serving::serve` does. This glue, with its declarations in
 `bench/src/inner.rs`, is not proved, and is the benchmark's alone.
 
 ## How it is measured

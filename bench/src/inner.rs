@@ -110,7 +110,7 @@ impl Answer {
 }
 
 /// `memory_allocator`: a call is handed the state and hands back the next one, which is kept, as a function of Rattle would
-/// do it. Its check and its serving of a sound state are put together here as `memory_allocator::serve` does, which the
+/// do it. Its check and its serving of a sound state are put together here as `serving::serve` does, which the
 /// module of the C calls has not.
 pub struct ByValue {
     state: State,

@@ -8,7 +8,7 @@ use borrow.Author.Tests.{leb-true, not-true, not-false}
 use lib.ListN.{length}
 use Rattle.state.specs.declared.MemoryAllocator.{MemoryAllocator}
 use Rattle.memory_allocator.specs.Promises.{freeOf, allocateOf, reserveOf}
-use Rattle.memory_allocator.specs.declared.Outcome.{Outcome}
+use Rattle.serving.specs.declared.Outcome.{Outcome}
 use Rattle.lines.specs.declared.parse.Line.{Line}
 use Rattle.lines.specs.declared.parse.Line.the-variants as Say
 use Rattle.answering.specs.Script.{room, roomy, textOf, stateAfter, Says, Answers}

@@ -14,7 +14,7 @@ use Rattle.state.specs.declared.MemoryAllocator.{MemoryAllocator}
 use Rattle.answers.specs.Answers.{addressOf}
 use Rattle.memory_allocator.specs.Histories as history
 use Rattle.memory_allocator.specs.Histories.{voucherOf}
-use Rattle.memory_allocator.specs.Promises.{made}
+use Rattle.serving.specs.Made.{made}
 use Rattle.memory_allocator.proofs.Demand as states
 use Rattle.image_parts.specs.Layout.{Layout, imageSize}
 use Rattle.image.specs.Writing.{imageOf}

@@ -17,8 +17,8 @@ use Rattle.answers.specs.Answers.{numberOf}
 use Rattle.answers.specs.declared.Answer.{Answer}
 use Rattle.answers.specs.declared.Answer.the-variants.{Accepted, NoEntry, InvalidEntry, NoMemory, InvalidRequest}
 use Rattle.memory_allocator.specs.Histories.{after, voucherOf, vouchers}
-use Rattle.memory_allocator.specs.Promises.{made}
-use Rattle.memory_allocator.specs.declared.Outcome.{Outcome}
+use Rattle.serving.specs.Made.{made}
+use Rattle.serving.specs.declared.Outcome.{Outcome}
 use Rattle.memory_allocator.proofs.Demand.{refused-same}
 use Rattle.image_parts.specs.Layout.{Layout}
 use Rattle.image.specs.Writing.{imageOf}

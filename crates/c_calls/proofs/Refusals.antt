@@ -9,7 +9,7 @@ use lib.ListN.{length}
 use Rattle.rules.specs.Rules.{Call}
 use Rattle.answers.specs.declared.Answer.{Answer}
 use Rattle.answers.specs.declared.Answer.the-variants.{Accepted, NoEntry, InvalidEntry, NoMemory, InvalidRequest}
-use Rattle.memory_allocator.specs.declared.Outcome.{Outcome}
+use Rattle.serving.specs.declared.Outcome.{Outcome}
 use Rattle.bytes_be.specs.Numbers.{Bytes}
 use Rattle.image_parts.specs.Layout.{Layout, imageSize}
 use Rattle.image.specs.Writing.{imageOf}

@@ -18,9 +18,9 @@ use Rattle.soundness.proofs.Exact.{sound-passes}
 use Rattle.answers.specs.Answers.{addressOf}
 use Rattle.answers.specs.declared.Answer.{Answer}
 use Rattle.answers.specs.declared.Answer.the-variants.{Accepted, NoEntry, InvalidEntry, NoMemory, InvalidRequest}
-use Rattle.memory_allocator.specs.Promises.{held}
-use Rattle.memory_allocator.specs.Promises.{made}
-use Rattle.memory_allocator.specs.declared.Outcome.{Outcome}
+use Rattle.serving.specs.Made.{held}
+use Rattle.serving.specs.Made.{made}
+use Rattle.serving.specs.declared.Outcome.{Outcome}
 use Rattle.memory_allocator.proofs.Steps.{made-held, made-voucher}
 use Rattle.bytes_be.specs.Numbers.{Bytes}
 use Rattle.image_parts.specs.Layout.{Layout, imageSize}

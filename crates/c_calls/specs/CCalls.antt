@@ -11,8 +11,8 @@ use Rattle.state.specs.State.{stateOf}
 use Rattle.answers.specs.Answers.{numberOf, addressOf}
 use Rattle.answers.specs.declared.Answer.{Answer}
 use Rattle.answers.specs.declared.Answer.the-variants.{Accepted, InvalidEntry}
-use Rattle.memory_allocator.specs.Promises.{made}
-use Rattle.memory_allocator.specs.declared.Outcome.{Outcome}
+use Rattle.serving.specs.Made.{made}
+use Rattle.serving.specs.declared.Outcome.{Outcome}
 use Rattle.image_parts.specs.Layout.{Layout, imageSize}
 use Rattle.image.specs.Writing.{imageOf}
 use Rattle.image.specs.Reading.{readingOf}

@@ -20,9 +20,9 @@ use Rattle.sound.specs.IsSound.{isSound}
 use Rattle.soundness.specs.Paragraph.{Sized}
 use Rattle.soundness.proofs.Exact.{passes-sound}
 use Rattle.answers.specs.Answers.{numberOf, addressOf}
-use Rattle.memory_allocator.specs.Promises.{made, judged, held}
+use Rattle.serving.specs.Made.{made, judged, held}
 use Rattle.memory_allocator.specs.Histories.{after, voucherOf, vouchers, freeIn}
-use Rattle.memory_allocator.specs.declared.Outcome as result
+use Rattle.serving.specs.declared.Outcome as result
 use Rattle.memory_allocator.proofs.Steps.{made-held, made-voucher, after-run, vouchers-trail}
 
 module _ (n : ℕ) (small : n ≤ none) where

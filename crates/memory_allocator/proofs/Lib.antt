@@ -1,4 +1,3 @@
 -- Laws of the promises; Demand states demand 3 for the by-value calls.
-pub mod Judged
 pub mod Steps
 pub mod Demand

@@ -16,9 +16,9 @@ use Rattle.state.proofs.Book.{book-back, holds-sound}
 use Rattle.sound.specs.IsSound.{isSound}
 use Rattle.soundness.proofs.Exact.{sound-passes}
 use Rattle.answers.specs.Answers.{numberOf, addressOf}
-use Rattle.memory_allocator.specs.Promises.{answerOf, held, judged, made}
+use Rattle.serving.specs.Made.{answerOf, held, judged, made}
 use Rattle.memory_allocator.specs.Histories.{after, voucherOf, vouchers}
-use Rattle.memory_allocator.specs.declared.Outcome as result
+use Rattle.serving.specs.declared.Outcome as result
 
 -- the numbers and addresses of the rules' answers are kept
 kept : (k a : ℕ) → k ≢ 0 → k ≤ 4 → (numberOf (answerOf k 0) ≡ k) × (addressOf (answerOf k 0) ≡ 0)

@@ -6,8 +6,8 @@ use Rattle.rules.specs.Rules.{Call, Voucher, freeAt}
 use Rattle.state.specs.Sound.{bookOf}
 use Rattle.state.specs.declared.MemoryAllocator.{MemoryAllocator}
 use Rattle.answers.specs.Answers.{numberOf, addressOf}
-use Rattle.memory_allocator.specs.Promises.{made}
-use Rattle.memory_allocator.specs.declared.Outcome.{Outcome}
+use Rattle.serving.specs.Made.{made}
+use Rattle.serving.specs.declared.Outcome.{Outcome}
 
 -- the state that a list of calls leaves
 unfoldable pub after : ℕ → MemoryAllocator → List Call → MemoryAllocator

@@ -1,10 +1,10 @@
 use mathlib.Core.Path.{sym, _∙_}
 use lib.Dec.{lit≤}
 use Rattle.state.specs.Shown.{pool}
-use Rattle.memory_allocator.proofs.Judged.{unsound-judged}
+use Rattle.serving.proofs.Judged.{unsound-judged}
 use borrow.Author.Needs.{needs}
-use Rattle.memory_allocator.proofs.serve.Statement.{statement}
-use Rattle.memory_allocator.proofs.serve.Tie as tie
+use Rattle.serving.proofs.serve.Statement.{statement}
+use Rattle.serving.proofs.serve.Tie as tie
 
 is-sound-requires : tie.Need-is-sound-requires
 is-sound-requires c κs = search needs

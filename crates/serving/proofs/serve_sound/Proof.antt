@@ -3,9 +3,9 @@ use Rattle.rules.specs.Rules.{step}
 use Rattle.state.specs.Shown.{pool}
 use Rattle.requests.specs.Requests.{callOf}
 use Rattle.soundness.proofs.Owned.{owned-sized}
-use Rattle.memory_allocator.proofs.Judged.{book-held, sound-judged}
-use Rattle.memory_allocator.proofs.serve_sound.Statement.{statement}
-use Rattle.memory_allocator.proofs.serve_sound.Tie as tie
+use Rattle.serving.proofs.Judged.{book-held, sound-judged}
+use Rattle.serving.proofs.serve_sound.Statement.{statement}
+use Rattle.serving.proofs.serve_sound.Tie as tie
 
 serve-in-requires : tie.Need-serve-in-requires
 serve-in-requires c κs =

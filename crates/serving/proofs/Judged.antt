@@ -15,8 +15,8 @@ use Rattle.soundness.proofs.Exact.{passes-sound}
 use Rattle.answers.specs.Answers.{Answers, numberOf, addressOf}
 use Rattle.answers.specs.declared.Answer as answer
 use Rattle.answers.specs.declared.Answer.the-variants.{Accepted, NoEntry, InvalidEntry, NoMemory, InvalidRequest}
-use Rattle.memory_allocator.specs.Promises.{answerOf, held, judged}
-use Rattle.memory_allocator.specs.declared.Outcome.{Outcome}
+use Rattle.serving.specs.Made.{answerOf, held, judged}
+use Rattle.serving.specs.declared.Outcome.{Outcome}
 
 -- an answer is that of its number and address
 pub answer-is : (k : answer.Answer) → k ≡ answerOf (numberOf k) (addressOf k)

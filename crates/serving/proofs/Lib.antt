@@ -1,0 +1,2 @@
+-- From what the calls in place leave to what is promised.
+pub mod Judged

@@ -1,0 +1,33 @@
+-- What any call answers and leaves, for every state. n is the number of records. Assumes nothing.
+use Prim.Native.Nat.{ℕ}
+use mathlib.Core.Bool.{cond}
+use lib.Dec.{eqb}
+use Rattle.rules.specs.Rules as rules
+use Rattle.rules.specs.Rules.{Book}
+use Rattle.state.specs.State.{stateOf}
+use Rattle.state.specs.Sound.{bookOf}
+use Rattle.state.specs.declared.MemoryAllocator.{MemoryAllocator}
+use Rattle.sound.specs.IsSound.{isSound}
+use Rattle.answers.specs.declared.Answer.{Answer}
+use Rattle.answers.specs.declared.Answer.the-variants.{Accepted, NoEntry, InvalidEntry, NoMemory, InvalidRequest}
+use Rattle.serving.specs.declared.Outcome.{Outcome}
+
+-- the answer with this number and address
+abbrev pub answerOf : ℕ → ℕ → Answer
+answerOf k a =
+    cond (eqb k 0) (Accepted (record { 0 = a }))
+    (cond (eqb k 1) NoEntry
+    (cond (eqb k 2) InvalidEntry
+    (cond (eqb k 3) NoMemory InvalidRequest)))
+
+-- an answer of the rules, with the state that holds its book
+abbrev pub held : ℕ → rules.Answer → Outcome
+held n w = record { answer = answerOf (w .number) (w .address); state = stateOf n (w .book) }
+
+-- a sound state is answered by the rule, on the book that its links lead to; an unsound one is InvalidEntry, and comes back as it was
+unfoldable pub judged : ℕ → (Book → rules.Answer) → MemoryAllocator → Outcome
+judged n rule s = cond (isSound n s) (held n (rule (bookOf n s))) (record { answer = InvalidEntry; state = s })
+
+-- any call
+abbrev pub made : ℕ → MemoryAllocator → rules.Call → Outcome
+made n s c = judged n (rules.step n c) s
