@@ -69,7 +69,7 @@ Measured on: {results.processor}. {versions}.
 ## The paths
 
 - **{baseline}** works in place. Of its state it checks that a link it follows is the number of a record, and no more.
-- **{c_call}** is what a program gets from the archive. It reads the image and checks the whole state, works,
+- **{c_call}** is what a program gets from the archive, and from the Rust crate. It reads the image and checks the whole state, works,
   and writes the image.
 - **{by_value}**, is `memory_allocator`: the state goes in, is checked, copied and worked on, and
   comes back, and the caller keeps what came back. No image is read or written.

@@ -59,7 +59,9 @@ make_keeping_kit() {
 keep_module() {
   local kept=target/module/$1
   make_keeping_kit
-  RATTLE_HOME=$work/kit rt staticlib "$1" >"$work/said" 2>&1 || { cat "$work/said" >&2; fail "$1 is not proved"; }
+  echo "${0##*/}: $1 and the crates below it are proved first, which takes some minutes the first time" >&2
+  RATTLE_HOME=$work/kit rt staticlib "$1" 2>&1 | tee "$work/said" | { grep --line-buffered '^rt: .* proved ([0-9]' >&2 || true; }
+  [ "${PIPESTATUS[0]}" -eq 0 ] || { cat "$work/said" >&2; fail "$1 is not proved"; }
   [ -f "$work/module.bc" ] || fail "rt made $1 without handing a module to clang; is it another kit than kit-id names?"
   mkdir -p "$kept"
   cp "$work/words" "$kept/words"

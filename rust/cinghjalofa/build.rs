@@ -2,6 +2,7 @@
 
 use std::env;
 use std::fs;
+use std::io::Write;
 use std::path::{Path, PathBuf};
 use std::process::{exit, Command, Stdio};
 
@@ -63,7 +64,7 @@ fn make(project: &Path, target: &Target, archive: &Path) {
         fail(&format!(
             "the archive of the proved calls is missing, and so is the Rattle kit that makes it.\n\
              looked for: {}\n\
-             either: install the kit, so that `rt` is on the PATH, and build again (or run `{command}` in the project)\n\
+             either: install the kit (its START-HERE.md says how), so that `rt` is on the PATH, and build again (or run `{command}` in the project)\n\
              or:     set {VARIABLE} to an archive that was made elsewhere",
             archive.display()
         ));
@@ -72,6 +73,7 @@ fn make(project: &Path, target: &Target, archive: &Path) {
         "rt" => PathBuf::from("rt"),
         tool => project.join(tool),
     };
+    tell_terminal(&format!("making the archive by `{command}`: the crates below it are proved first, which takes minutes"));
     // its words are kept and shown only where it fails: cargo would take them for its own
     let made = Command::new(program).args(&target.command[1..]).current_dir(project).output();
     match made {
@@ -86,14 +88,22 @@ fn make(project: &Path, target: &Target, archive: &Path) {
     }
 }
 
+/// Cargo keeps what a build says to itself until the end; whoever waits at a terminal is told there.
+fn tell_terminal(what: &str) {
+    if let Ok(mut terminal) = fs::OpenOptions::new().write(true).open("/dev/tty") {
+        let _ = writeln!(terminal, "cinghjalofa: {what}");
+    }
+}
+
 /// A foreign archive would only be noticed by the linker, in words about missing symbols.
 fn check_machine(archive: &Path, target: &Target) {
     let bytes = fs::read(archive).unwrap_or_else(|problem| fail(&format!("{}: {problem}", archive.display())));
     let object = bytes.windows(20).find(|window| window.starts_with(b"\x7fELF"));
     let machine = object.map(|header| u16::from_le_bytes([header[18], header[19]]));
     if machine != Some(target.machine) {
+        let found = machine.map_or("no machine".to_string(), |number| format!("ELF machine {number}"));
         fail(&format!(
-            "{} holds code for ELF machine {machine:?}, and the target's is {} (62: x86-64, 183: aarch64).\n\
+            "{} holds code for {found}, and the target's is {} (62: x86-64, 183: aarch64).\n\
              `{}` makes the right one",
             archive.display(),
             target.machine,

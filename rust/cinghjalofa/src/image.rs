@@ -57,8 +57,19 @@ pub struct FreeRange {
     pub last: usize,
 }
 
+impl FreeRange {
+    /// The number of its bytes.
+    ///
+    /// ```
+    /// assert_eq!(cinghjalofa::FreeRange { start: 0x2000, last: 0x2fff }.size(), 0x1000);
+    /// ```
+    pub const fn size(&self) -> usize {
+        self.last.wrapping_sub(self.start).wrapping_add(1)
+    }
+}
+
 /// The free ranges by address, read from an image without copying it.
-#[derive(Clone, Debug)]
+#[derive(Clone)]
 pub struct FreeRanges<'a> {
     image: &'a Image,
     record: u8,

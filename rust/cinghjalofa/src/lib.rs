@@ -7,6 +7,7 @@ compile_error!("cinghjalofa: addresses have 64 bits");
 
 mod calls;
 mod image;
+mod show;
 
 pub use image::{FreeRange, FreeRanges};
 
@@ -28,9 +29,30 @@ pub enum MemoryError {
     InvalidRequest,
 }
 
+impl MemoryError {
+    /// The number that the documents and the C calls give it, 1 to 4. (`as` counts from 0, as it does of the module's.)
+    ///
+    /// ```
+    /// use cinghjalofa::MemoryError;
+    ///
+    /// assert_eq!(MemoryError::NoEntry.number(), 1);
+    /// assert_eq!(MemoryError::InvalidRequest.number(), 4);
+    /// assert_eq!(MemoryError::NoMemory.to_string(), "too few bytes are free, or no free range fits");
+    /// ```
+    pub const fn number(self) -> u8 {
+        match self {
+            MemoryError::NoEntry => 1,
+            MemoryError::InvalidEntry => 2,
+            MemoryError::NoMemory => 3,
+            MemoryError::InvalidRequest => 4,
+        }
+    }
+}
+
 /// The allocator, with its image inside: what MiniVisor's `MemoryAllocator` is replaced by.
 ///
-/// Its image is changed by the proved calls alone, so it is always sound.
+/// Its image is changed by the proved calls alone, so it is always sound. It is not `Clone`: two copies would hand out the
+/// same bytes.
 ///
 /// ```
 /// use cinghjalofa::{MemoryAllocator, MemoryError};
@@ -102,8 +124,8 @@ impl MemoryAllocator {
         &self.image
     }
 
-    /// Takes `size` bytes at a multiple of 2^`align_order` (0: anywhere) from the smallest free range that fits, and
-    /// returns their address.
+    /// Takes `size` bytes at a multiple of 2^`align_order` (0: anywhere) from the smallest free range that fits, of equal
+    /// ones from the one that got its size last, and returns their address.
     pub fn allocate(&mut self, size: usize, align_order: usize) -> Result<usize, MemoryError> {
         calls::allocate(&mut self.image, size, align_order)
     }
