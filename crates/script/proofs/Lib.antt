@@ -1,2 +1,3 @@
--- Laws of the loop over a chunk.
-mod Going
+-- Laws of the program's functions.
+mod Handing
+mod Looping

@@ -1,2 +1,2 @@
--- What the program's functions keep, whatever is read and written.
+-- What the program's functions promise.
 pub mod Program

@@ -1,30 +1,28 @@
--- What the program keeps from one read to the next. Assumes nothing.
+-- What the program promises of the turns it takes. Assumes nothing.
 use Prim.Native.Nat.{ℕ}
-use mathlib.Core.Bool.{Bool, true}
+use mathlib.Core.Bool.{Bool, false}
 use mathlib.Core.List.{List}
 use mathlib.Core.Path.{_≡_}
-use lib.ListN.{drop}
-use Rattle.answering.specs.Script.{roomy}
-use Rattle.chunks.specs.Input.{Told, heard, Holds, Ready}
+use mathlib.Core.Logic.{_⊎_}
 use Rattle.chunks.specs.declared.Reading.{Reading}
+use Rattle.sessions.specs.Sessions.{goesOn, HandsOver, Run}
+use Rattle.sessions.specs.declared.Session.{Session}
 
--- the output is empty again
-abbrev pub emptied : Reading → Reading
-emptied r = record { state = r .state; held = r .held; from = r .from; at = 0 }
+-- the text of the reading r was handed to the writer
+pub record Handed (r : Reading) (k : ℕ) (e : Bool) (s : Session) : Type 0 where
+  pub reading : s .reading ≡ r
+  pub hands : HandsOver s
+  pub count : s .count ≡ k
+  pub ended : s .ended ≡ e
 
--- the output has room for any answer, and the rest is as it was
-pub record Roomed (n : ℕ) (r : Reading) (out : List ℕ) (r′ : Reading) : Type 0 where
-  pub room : roomy n out (r′ .at) ≡ true
-  pub state : r′ .state ≡ r .state
-  pub held : r′ .held ≡ r .held
-  pub from : r′ .from ≡ r .from
+-- 2^64 - 1: more turns than any run takes
+abbrev pub enough : ℕ
+enough = 18446744073709551615
 
--- what was told of the input, but for its text, which is written as it comes
-pub record Tells (t : Told) (r : Reading) (carry : List ℕ) : Type 0 where
-  pub state : r .state ≡ t .state
-  pub part : Holds (t .part) carry (r .held)
-
--- the rest of the chunk is heard, unless a write has failed
-pub record Chunk (n : ℕ) (r : Reading) (carry chunk : List ℕ) (r′ : Reading) (carry′ out′ : List ℕ) (going : Bool) : Type 0 where
-  pub ready : Ready n r′ carry′ out′
-  pub tells : going ≡ true → (t : Told) → Tells t r carry → Tells (heard n t (drop (r .from) chunk)) r′ carry′
+-- turns were taken from the beginning on, until the input had ended or a read or a write had failed
+pub record Over (n : ℕ) (s : Session) (carry chunk out : List ℕ) : Type 0 where
+  pub turns : ℕ
+  pub read : List ℕ
+  pub handed : List ℕ
+  pub run : Run n turns read handed s carry chunk out
+  pub over : (goesOn s ≡ false) ⊎ (turns ≡ enough)

@@ -1,138 +1,121 @@
 // The script program: calls from standard input, one a line, and their answers to standard output.
-use answering::has_room;
 use chunks::Reading;
 use chunks::answer_last;
-use chunks::answer_next;
 use libc::STDIN_FILENO;
 use libc::STDOUT_FILENO;
-use memory_allocator::new;
-ghost use mathlib.Core.Path.{_≡_};
-ghost use Prim.Native.Nat.{_≤_};
+use sessions::Session;
+use sessions::afresh;
+use sessions::answer_part;
+use sessions::begun;
+use sessions::goes_on;
+use sessions::restarted;
+use streams::read_some;
+use streams::write_all;
+ghost use Prim.Native.Nat.{_<_, _≤_};
 ghost use lib.ListN.{length};
 ghost use Rattle.state.specs.Shown.{pool};
 ghost use Rattle.answering.specs.Script.{room};
 ghost use Rattle.chunks.specs.Input.{kept, Ready};
-ghost use Rattle.script.specs.Program.{emptied, Roomed, Chunk};
+ghost use Rattle.sessions.specs.Sessions.{fresh, Prepared, Answered, Closed, Turned};
+ghost use Rattle.script.specs.Program.{Handed, Over};
 
 // The bytes that are kept of a line: one more than a call can have.
 const KEPT: usize = 81;
 
-// The answers so far are written.
-fn flush(r: Reading, out: &[u8], going: &mut bool) -> Reading
+// This turn's text is handed to the writer.
+fn hand_over(r: Reading, count: usize, ended: bool, out: &[u8]) -> Session
     requires { ⌜ r .at ≤ length (now out) ⌝ }
-    ensures { λ r′. ⌜ r′ ≡ emptied r ⌝ }
+    ensures { λ s. ⌜ Handed r count ended s ⌝ }
 {
     let at = r.at;
-    *going = io::write_all(STDOUT_FILENO, &out[..at]);
+    let written = write_all(
+        STDOUT_FILENO,
+        &out[..at],
+        b"failed: the answers cannot be written",
+    );
+    Session {
+        reading: r,
+        count: count,
+        taken: written.bytes,
+        ended: ended,
+        failed: written.failed,
+    }
+}
+
+// The next lines of the chunk are answered.
+fn answer_more(s: Session, carry: &mut [u8], chunk: &[u8], out: &mut [u8]) -> Session
+    requires { ⌜ Prepared pool s (now carry) (now chunk) (now out) × (s .reading .from < s .count) ⌝ }
+    ensures { λ s′. ⌜ Answered pool s (now (carry .entry)) (now (chunk .entry)) (now (out .entry)) s′ (now (carry .exit)) (now (out .exit)) ⌝ }
+{
+    let reading = s.reading;
+    let count = s.count;
+    let r = afresh(reading, reading.from);
+    let next = answer_part(r, carry, &chunk[..count], out);
+    hand_over(next, count, false, out)
+}
+
+// The input has ended: a line that no newline ends is answered too.
+fn close(s: Session, carry: &[u8], out: &mut [u8]) -> Session
+    requires { ⌜ Ready pool (fresh (s .reading) 0) (now carry) (now out) ⌝ }
+    ensures { λ s′. ⌜ Closed pool s (now (carry .entry)) (now (out .entry)) s′ (now (out .exit)) ⌝ }
+{
+    let reading = s.reading;
+    let r = afresh(reading, 0);
+    let at = answer_last(r, carry, out);
     let state = r.state;
-    Reading {
-        state: state,
-        held: r.held,
-        from: r.from,
-        at: 0,
-    }
-}
-
-fn make_room(r: Reading, out: &[u8], going: &mut bool) -> Reading
-    requires { ⌜ (r .at ≤ length (now out)) × (room pool ≤ length (now out)) ⌝ }
-    ensures { λ r′. ⌜ Roomed pool r (now (out .entry)) r′ ⌝ }
-{
-    if has_room(out.len(), r.at) {
-        return r;
-    }
-    flush(r, out, going)
-}
-
-// The lines that end in the chunk are answered, and the rest of it is held.
-fn answer_chunk(
-    r: Reading,
-    carry: &mut [u8],
-    chunk: &[u8],
-    out: &mut [u8],
-    going: &mut bool,
-) -> Reading
-    requires { ⌜ Ready pool r (now carry) (now out) × (r .from ≤ length (now chunk)) ⌝ }
-    ensures { λ r′. ⌜ Chunk pool r (now (carry .entry)) (now (chunk .entry)) r′ (now (carry .exit)) (now (out .exit)) (now (going .exit)) ⌝ }
-{
-    let mut reading = r;
-    while *going && reading.from < chunk.len() {
-        let next = answer_next(reading, carry, chunk, out);
-        reading = make_room(next, out, going);
-    }
-    reading
-}
-
-// A new chunk is answered, and the answers are written.
-fn answer_new(
-    r: Reading,
-    carry: &mut [u8],
-    chunk: &[u8],
-    out: &mut [u8],
-    going: &mut bool,
-) -> Reading
-    requires { ⌜ Ready pool r (now carry) (now out) ⌝ }
-    ensures { λ r′. ⌜ Ready pool r′ (now (carry .exit)) (now (out .exit)) ⌝ }
-{
-    let state = r.state;
-    let fresh = Reading {
+    let last = Reading {
         state: state,
         held: r.held,
         from: 0,
-        at: r.at,
+        at: at,
     };
-    let next = answer_chunk(fresh, carry, chunk, out, going);
-    flush(next, out, going)
+    hand_over(last, 0, true, out)
 }
 
-// The input has ended.
-fn answer_end(r: Reading, carry: &[u8], out: &mut [u8])
-    requires { ⌜ Ready pool r (now carry) (now out) ⌝ }
+// Reads once. Where the input has ended, the session closes.
+fn read_more(s: Session, carry: &[u8], chunk: &mut [u8], out: &mut [u8]) -> Session
+    requires { ⌜ Ready pool (fresh (s .reading) 0) (now carry) (now out) × (s .count ≤ s .reading .from) ⌝ }
+    ensures { λ s′. ⌜ Turned pool s (now (carry .entry)) (now (chunk .entry)) (now (out .entry)) s′ (now (carry .entry)) (now (chunk .exit)) (now (out .exit)) ⌝ }
 {
-    let at = answer_last(r, carry, out);
-    io::write_all(STDOUT_FILENO, &out[..at]);
+    let read = read_some(
+        STDIN_FILENO,
+        chunk,
+        b"failed: standard input cannot be read",
+    );
+    let count = read.bytes;
+    if read.failed {
+        return restarted(s, 0, true);
+    }
+    if count == 0 {
+        return close(s, carry, out);
+    }
+    restarted(s, count, false)
 }
 
-// Reads once, and writes the answers to the lines that have ended.
-fn answer_read(
-    r: Reading,
-    carry: &mut [u8],
-    chunk: &mut [u8],
-    out: &mut [u8],
-    going: &mut bool,
-) -> Reading
-    requires { ⌜ Ready pool r (now carry) (now out) ⌝ }
-    ensures { λ r′. ⌜ Ready pool r′ (now (carry .exit)) (now (out .exit)) ⌝ }
+// What is left of the chunk is answered before more is read.
+fn turn(s: Session, carry: &mut [u8], chunk: &mut [u8], out: &mut [u8]) -> Session
+    requires { ⌜ Prepared pool s (now carry) (now chunk) (now out) ⌝ }
+    ensures { λ s′. ⌜ Turned pool s (now (carry .entry)) (now (chunk .entry)) (now (out .entry)) s′ (now (carry .exit)) (now (chunk .exit)) (now (out .exit)) ⌝ }
 {
-    let got = libc::read(STDIN_FILENO, chunk);
-    if got < 0 {
-        *going = false;
-        return r;
+    let reading = s.reading;
+    if reading.from < s.count {
+        return answer_more(s, carry, chunk, out);
     }
-    if got == 0 {
-        answer_end(r, carry, out);
-        *going = false;
-        return r;
-    }
-    let count = io::count(got, chunk);
-    answer_new(r, carry, &chunk[..count], out, going)
+    read_more(s, carry, chunk, out)
 }
 
 // A proved loop has to end, and nothing says that an input does: the turns are more than any run takes.
-fn answer_all(carry: &mut [u8], chunk: &mut [u8], out: &mut [u8])
+fn answer_all(carry: &mut [u8], chunk: &mut [u8], out: &mut [u8]) -> Session
     requires { ⌜ (kept ≤ length (now carry)) × (room pool ≤ length (now out)) ⌝ }
+    ensures { λ s. ⌜ Over pool s (now (carry .exit)) (now (chunk .exit)) (now (out .exit)) ⌝ }
 {
-    let mut reading = Reading {
-        state: new(),
-        held: 0,
-        from: 0,
-        at: 0,
-    };
-    let mut going = true;
+    let mut session = begun();
     let mut turns = u64::MAX;
-    while going && turns > 0 {
-        reading = answer_read(reading, carry, chunk, out, &mut going);
+    while goes_on(session) && turns > 0 {
+        session = turn(session, carry, chunk, out);
         turns -= 1;
     }
+    session
 }
 
 fn main() {

@@ -1,65 +1,71 @@
-use mathlib.Core.Path.{refl}
+use mathlib.Core.Path.{sym, _∙_}
+use mathlib.Core.Logic.{inl, inr}
 use native.Mathlib.Omega.{arith}
-use borrow.Author.Tests.{ltb-true}
+use borrow.Author.Needs.{needs}
+use borrow.Author.Tests.{ltb-true, ltb-false}
 use Rattle.state.specs.Shown.{pool}
-use Rattle.script.proofs.Going.{Sized, empty-room}
+use Rattle.script.proofs.Looping.{Going, going-none, going-on, over}
 use Rattle.script.proofs.answer_all.Statement.{statement}
 use Rattle.script.proofs.answer_all.Tie as tie
 
 abbrev Inv-loop : tie.InvT-loop
-Inv-loop carry₀ chunk₀ out₀ reading₀ going₀ turns₀ carry chunk out reading going turns = Sized reading carry₀ chunk₀ out₀ carry chunk out
+Inv-loop carry₀ chunk₀ out₀ session₀ turns₀ carry chunk out session turns = Going pool carry₀ chunk₀ out₀ session carry chunk out turns
 
 abbrev μ-loop : tie.MeasureT-loop
-μ-loop carry₀ chunk₀ out₀ reading₀ going₀ turns₀ carry chunk out reading going turns = turns
+μ-loop carry₀ chunk₀ out₀ session₀ turns₀ carry chunk out session turns = turns
 
-new-requires : tie.Need-new-requires Inv-loop μ-loop
-new-requires c κs = tt
+begun-requires : tie.Need-begun-requires Inv-loop μ-loop
+begun-requires c κs = search needs
 
 loop-holds : tie.Need-loop-holds Inv-loop μ-loop
-loop-holds c =
-    let s = c .before .before .before .before in
-    record { ready = record { carries = s .pre .0; held = omega arith; room = empty-room pool (s .args .out .now) (s .pre .1) }; carry-size = refl; chunk-size = refl; out-size = refl }
+loop-holds c = let s = c .before .before .before .before in going-none pool _ _ _ _ (c .begun .ensures) (s .pre .0) (s .pre .1)
 
-answer-read-requires : tie.Need-answer-read-requires Inv-loop μ-loop
-answer-read-requires c κs = c .before .before .before .before .before .before .loop .inv .ready
+goes-on-requires : tie.Need-goes-on-requires Inv-loop μ-loop
+goes-on-requires c κs = search needs
+
+turn-requires : tie.Need-turn-requires Inv-loop μ-loop
+turn-requires c κs = c .before .before .before .before .before .before .loop .inv .prepared
 
 sub-turns : tie.Need-sub-turns Inv-loop μ-loop
-sub-turns c = omega (arith, ltb-true 0 (c .before .before .before .before .before .before .before .before .before .before .before .before .before .loop .turns) (c .before .before .before .before .before .before .before .before .before .before .before .if1 .taken))
+sub-turns c = let t = c .before .before .before .before .before .before in omega (arith, ltb-true 0 (t .before .before .before .before .before .before .before .loop .turns) (t .before .before .before .before .if2 .taken))
 
 loop-less : tie.Need-loop-less Inv-loop μ-loop
-loop-less c = omega (arith, ltb-true 0 (c .before .before .before .before .before .before .before .before .before .before .before .before .before .loop .turns) (c .before .before .before .before .before .before .before .before .before .before .before .if1 .taken))
+loop-less c = let t = c .before .before .before .before .before .before in omega (arith, ltb-true 0 (t .before .before .before .before .before .before .before .loop .turns) (t .before .before .before .before .if2 .taken))
 
 loop-again : tie.Need-loop-again Inv-loop μ-loop
 loop-again c =
-    let i = c .before .before .before .before .before .before .before .before .before .before .before .before .before .loop .inv in
-    let x = i .carry-size in
-    let y = i .chunk-size in
-    let z = i .out-size in
-    record { ready = c .before .before .before .before .before .before .answer-read .ensures; carry-size = omega arith; chunk-size = omega arith; out-size = omega arith }
+    let t = c .before .before .before .before .before .before in
+    let g = t .before .before .before .before .before .before in
+    going-on pool _ _ _ _ _ _ _ _ (g .before .loop .inv) _ _ _ _ (sym (g .goes-on .ensures) ∙ t .before .before .before .before .before .if1 .taken) (ltb-true 0 _ (t .before .before .before .before .if2 .taken))
+    (t .turn .kept .1 .0) (t .turn .kept .1 .1 .0) (t .turn .kept .1 .1 .1 .0) (t .turn .ensures)
 
 same-length : tie.Need-same-length Inv-loop μ-loop
-same-length c = c .before .before .loop .inv .carry-size
+same-length c = c .before .before .before .loop .inv .carry-size
 
 same-length-2 : tie.Need-same-length-2 Inv-loop μ-loop
-same-length-2 c = c .before .before .loop .inv .chunk-size
+same-length-2 c = c .before .before .before .loop .inv .chunk-size
 
 same-length-3 : tie.Need-same-length-3 Inv-loop μ-loop
-same-length-3 c = c .before .before .loop .inv .out-size
+same-length-3 c = c .before .before .before .loop .inv .out-size
 
 returns : tie.Need-returns Inv-loop μ-loop
-returns c = tt
+returns c =
+    let l = c .before .before .before in
+    over pool _ _ _ _ _ _ _ _ (l .loop .inv) (inr (let h = ltb-false 0 (l .loop .turns) (c .if2 .left) in omega arith))
 
 same-length-4 : tie.Need-same-length-4 Inv-loop μ-loop
-same-length-4 c = c .before .loop .inv .carry-size
+same-length-4 c = c .before .before .loop .inv .carry-size
 
 same-length-5 : tie.Need-same-length-5 Inv-loop μ-loop
-same-length-5 c = c .before .loop .inv .chunk-size
+same-length-5 c = c .before .before .loop .inv .chunk-size
 
 same-length-6 : tie.Need-same-length-6 Inv-loop μ-loop
-same-length-6 c = c .before .loop .inv .out-size
+same-length-6 c = c .before .before .loop .inv .out-size
 
 returns-2 : tie.Need-returns-2 Inv-loop μ-loop
-returns-2 c = tt
+returns-2 c =
+    let g = c .before in
+    over pool _ _ _ _ _ _ _ _ (g .before .loop .inv) (inl (sym (g .goes-on .ensures) ∙ c .if1 .left))
 
 pub answer-all-spec : {M : Type 1} → statement M
 answer-all-spec =
@@ -67,9 +73,10 @@ answer-all-spec =
     (tie.spec
     Inv-loop
     μ-loop
-    new-requires
+    begun-requires
     loop-holds
-    answer-read-requires
+    goes-on-requires
+    turn-requires
     sub-turns
     loop-less
     loop-again

@@ -1,0 +1,43 @@
+-- What is handed to the writer, and what a turn makes of it. Assumes nothing.
+use mathlib.Core.Path.{_≡_, refl, sym, ap, _∙_, subst}
+use mathlib.Core.Bool.{Bool, true, false}
+use mathlib.Core.List.{List}
+use Prim.Native.Nat.{ℕ, _≤_}
+use native.Mathlib.Omega.{arith}
+use lib.ListN.{length, take}
+use lib.Seq.{length-take-le}
+use Rattle.chunks.specs.Input.{Hears, Closes}
+use Rattle.chunks.specs.declared.Reading.{Reading}
+use Rattle.streams.specs.Streams.{Writes}
+use Rattle.streams.specs.declared.Written.{Written}
+use Rattle.sessions.specs.Sessions.{fresh, HandsOver, Answered, Closed}
+use Rattle.sessions.specs.declared.Session.{Session}
+use Rattle.script.specs.Program.{Handed}
+
+pub handed-by : (r : Reading) (k : ℕ) (e : Bool) (w : Written) (out : List ℕ) → r .at ≤ length out → Writes w (length (take (r .at) out))
+    → Handed r k e (record { reading = r; count = k; taken = w .bytes; ended = e; failed = w .failed })
+handed-by r k e w out h v =
+    let size = length-take-le (r .at) out h in
+    record { reading = refl; hands = record { whole = λ f. v .whole f ∙ size; part = λ f. (let p = v .part f in omega arith) }; count = refl; ended = refl }
+
+module _ (n : ℕ) (s : Session) (carry out : List ℕ) (s′ : Session) (out′ : List ℕ) where
+  pub closed-by : (r : Reading) (at : ℕ) → r ≡ fresh (s .reading) 0 → Closes n r carry out at out′ → Handed (record { state = r .state; held = r .held; from = 0; at = at }) 0 true s′ → Closed n s carry out s′ out′
+  closed-by r at e w h =
+      record {
+        closes = rw (h .reading) (subst (λ (q : Reading). Closes n q carry out at out′) e w);
+        state = ap (λ (q : Reading). q .state) (h .reading) ∙ ap (λ (q : Reading). q .state) e;
+        held = ap (λ (q : Reading). q .held) (h .reading) ∙ ap (λ (q : Reading). q .held) e;
+        from = ap (λ (q : Reading). q .from) (h .reading);
+        hands = h .hands;
+        count = h .count;
+        ended = h .ended;
+      }
+
+  pub answered-by : (chunk carry′ : List ℕ) (r next : Reading) → r ≡ fresh (s .reading) (s .reading .from) → Hears n r carry (take (s .count) chunk) out next carry′ out′ → Handed next (s .count) false s′ → Answered n s carry chunk out s′ carry′ out′
+  answered-by chunk carry′ r next e w h =
+      record {
+        hears = rw (h .reading) (subst (λ (q : Reading). Hears n q carry (take (s .count) chunk) out next carry′ out′) e w);
+        hands = h .hands;
+        count = h .count;
+        ended = h .ended;
+      }

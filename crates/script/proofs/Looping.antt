@@ -1,0 +1,62 @@
+-- Turns, one after the other. Assumes nothing.
+use mathlib.Core.Path.{_≡_, refl, _∙_}
+use mathlib.Core.Bool.{Bool, true, false}
+use mathlib.Core.List.{List, []}
+use mathlib.Core.Logic.{_⊎_, inl, inr}
+use Prim.Native.Nat.{ℕ, suc, _+_, _-_, _<_, _≤_}
+use native.Mathlib.Omega.{arith}
+use lib.ListN.{length}
+use Rattle.answering.specs.Script.{room}
+use Rattle.chunks.specs.Input.{kept}
+use Rattle.sessions.specs.Sessions.{begin, goesOn, Prepared, Turned, Run, starts, turns}
+use Rattle.sessions.specs.declared.Session.{Session}
+use Rattle.sessions.proofs.Turns.{prepared-on}
+use Rattle.script.specs.Program.{enough, Over}
+
+-- so many turns are taken, and so many may follow
+pub record Going (n : ℕ) (carry₀ chunk₀ out₀ : List ℕ) (s : Session) (carry chunk out : List ℕ) (more : ℕ) : Type 0 where
+  pub taken : ℕ
+  pub read : List ℕ
+  pub handed : List ℕ
+  pub run : Run n taken read handed s carry chunk out
+  pub turns : taken + more ≡ enough
+  pub prepared : Prepared n s carry chunk out
+  pub carry-size : length carry ≡ length carry₀
+  pub chunk-size : length chunk ≡ length chunk₀
+  pub out-size : length out ≡ length out₀
+
+module _ (n : ℕ) (carry₀ chunk₀ out₀ : List ℕ) where
+  pub going-none : (s : Session) → s ≡ begin n → kept ≤ length carry₀ → room n ≤ length out₀ → Going n carry₀ chunk₀ out₀ s carry₀ chunk₀ out₀ enough
+  going-none s e h k =
+      rw e (record {
+        taken = 0;
+        read = [];
+        handed = [];
+        run = starts carry₀ chunk₀ out₀;
+        turns = refl;
+        prepared = record { carries = h; held = omega arith; space = k; count = omega arith };
+        carry-size = refl;
+        chunk-size = refl;
+        out-size = refl;
+      })
+
+  module _ (s : Session) (carry chunk out : List ℕ) (more : ℕ) (g : Going n carry₀ chunk₀ out₀ s carry chunk out more) where
+    pub going-on : (s′ : Session) (carry′ chunk′ out′ : List ℕ) → goesOn s ≡ true → 0 < more → length carry′ ≡ length carry → length chunk′ ≡ length chunk → length out′ ≡ length out
+        → Turned n s carry chunk out s′ carry′ chunk′ out′ → Going n carry₀ chunk₀ out₀ s′ carry′ chunk′ out′ (more - 1)
+    going-on s′ carry′ chunk′ out′ on h c d e w =
+        let t = g .turns in
+        record {
+          taken = suc (g .taken);
+          read = _;
+          handed = _;
+          run = turns (g .taken) (g .read) (g .handed) s carry chunk out s′ carry′ chunk′ out′ (g .run) on w;
+          turns = omega arith;
+          prepared = prepared-on n s carry chunk out (g .prepared) s′ carry′ chunk′ out′ c d e w;
+          carry-size = c ∙ g .carry-size;
+          chunk-size = d ∙ g .chunk-size;
+          out-size = e ∙ g .out-size;
+        }
+
+    pub over : (goesOn s ≡ false) ⊎ (more ≡ 0) → Over n s carry chunk out
+    over (inl e) = record { turns = g .taken; read = g .read; handed = g .handed; run = g .run; over = inl e }
+    over (inr e) = let t = g .turns in record { turns = g .taken; read = g .read; handed = g .handed; run = g .run; over = inr (omega arith) }

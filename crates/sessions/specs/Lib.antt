@@ -1,0 +1,2 @@
+-- What a session keeps from turn to turn.
+pub mod Sessions

@@ -1,0 +1,2 @@
+-- Laws of the system's answers.
+mod Told
