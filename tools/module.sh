@@ -1,12 +1,11 @@
 # The one LLVM module that Rattle hands to its clang for a crate: kept on the way, as text for either kind of machine, and
-# compiled by Rattle's own words. To be sourced, with the project as the current folder. Gives
+# compiled by Rattle's own words. To be sourced after begin.sh, with the project as the current folder. Gives
 #   keep_module CRATE             proves CRATE and leaves its module as text in target/module/CRATE/x86_64.ll, and the words
 #                                 that Rattle gave its clang beside it
 #   retarget CRATE                leaves the same for Arm in target/module/CRATE/aarch64.ll
 #   compile CRATE MACHINE TEXT OBJECT
 #                                 compiles such a text by the words kept for CRATE, for x86_64 or aarch64
 #   pack ARCHIVE OBJECT..         makes an archive
-#   fail WHAT                     says what went wrong, and ends
 # $work is a folder that is gone at the end.
 #
 # Rattle compiles for x86-64 alone. For Arm the module's target is replaced, and the kit's same clang compiles it for bare
@@ -15,11 +14,6 @@
 
 triple=aarch64-unknown-none-elf
 bare=(--target="$triple" -mgeneral-regs-only -mstrict-align)
-
-fail() {
-  echo "${0##*/}: $1" >&2
-  exit 1
-}
 
 # link_all FOLDER NAME TO: links to all that FOLDER has, NAME aside
 link_all() {
@@ -59,9 +53,9 @@ make_keeping_kit() {
 keep_module() {
   local kept=target/module/$1
   make_keeping_kit
-  echo "${0##*/}: $1 and the crates below it are proved first, which takes some minutes the first time" >&2
-  RATTLE_HOME=$work/kit rt staticlib "$1" 2>&1 | tee "$work/said" | { grep --line-buffered '^rt: .* proved ([0-9]' >&2 || true; }
-  [ "${PIPESTATUS[0]}" -eq 0 ] || { cat "$work/said" >&2; fail "$1 is not proved"; }
+  say "$1 and the crates below it are proved first, which takes some minutes the first time"
+  RATTLE_HOME=$work/kit rt staticlib "$1" </dev/null 2>&1 | tee "$work/said" | progress
+  [ "${PIPESTATUS[0]}" -eq 0 ] || { tell "$(cat "$work/said")"; fail "$1 could not be made: the words of rt stand above"; }
   [ -f "$work/module.bc" ] || fail "rt made $1 without handing a module to clang; is it another kit than kit-id names?"
   mkdir -p "$kept"
   cp "$work/words" "$kept/words"

@@ -2,23 +2,22 @@
 
 use std::env;
 use std::fs;
-use std::io::Write;
+use std::io::{self, BufRead, BufReader, Write};
 use std::path::{Path, PathBuf};
 use std::process::{exit, Command, Stdio};
 
 const VARIABLE: &str = "CINGHJALOFA_ARCHIVE";
+/// Makes the archives of all targets in the project, one command at a time.
+const COMMAND: &str = "tools/archives";
 
-/// Where a target's archive lies in the project, the command that makes it there, and its ELF machine number.
+/// Where a target's archive lies in the project, and its ELF machine number.
 struct Target {
     archive: &'static str,
-    command: &'static [&'static str],
     machine: u16,
 }
 
-const X86_64: Target =
-    Target { archive: "target/staticlib/libc_calls.a", command: &["rt", "staticlib", "c_calls"], machine: 62 };
-const AARCH64: Target =
-    Target { archive: "target/aarch64/libc_calls.a", command: &["tools/arm-archive"], machine: 183 };
+const X86_64: Target = Target { archive: "target/staticlib/libc_calls.a", machine: 62 };
+const AARCH64: Target = Target { archive: "target/aarch64/libc_calls.a", machine: 183 };
 
 fn main() {
     println!("cargo:rerun-if-env-changed={VARIABLE}");
@@ -52,40 +51,44 @@ fn of_the_project(target: &Target) -> PathBuf {
     let project = Path::new(env!("CARGO_MANIFEST_DIR")).join("../..");
     let archive = project.join(target.archive);
     if !archive.is_file() {
-        make(&project, target, &archive);
+        make(&project, &archive);
     }
     archive
 }
 
-fn make(project: &Path, target: &Target, archive: &Path) {
+fn make(project: &Path, archive: &Path) {
     let has_kit = Command::new("rt").arg("version").stdout(Stdio::null()).status().is_ok();
-    let command = target.command.join(" ");
     if !has_kit {
         fail(&format!(
             "the archive of the proved calls is missing, and so is the Rattle kit that makes it.\n\
              looked for: {}\n\
-             either: install the kit (its START-HERE.md says how), so that `rt` is on the PATH, and build again (or run `{command}` in the project)\n\
+             either: install the kit (its START-HERE.md says how), so that `rt` is on the PATH, and build again (or run `{COMMAND}` in the project)\n\
              or:     set {VARIABLE} to an archive that was made elsewhere",
             archive.display()
         ));
     }
-    let program = match target.command[0] {
-        "rt" => PathBuf::from("rt"),
-        tool => project.join(tool),
-    };
-    tell_terminal(&format!("making the archive by `{command}`: the crates below it are proved first, which takes minutes"));
-    // its words are kept and shown only where it fails: cargo would take them for its own
-    let made = Command::new(program).args(&target.command[1..]).current_dir(project).output();
-    match made {
-        Ok(output) if output.status.success() && archive.is_file() => {}
-        Ok(output) => fail(&format!(
-            "`{command}` did not make {}; it said:\n{}{}",
-            archive.display(),
-            String::from_utf8_lossy(&output.stdout),
-            String::from_utf8_lossy(&output.stderr)
-        )),
-        Err(problem) => fail(&format!("`{command}` could not be started: {problem}")),
+    tell_terminal(&format!("making the archive by `{COMMAND}`"));
+    match said_by(Command::new(project.join(COMMAND))) {
+        Ok((true, _)) if archive.is_file() => {}
+        Ok((_, said)) => fail(&format!("`{COMMAND}` did not make {}; it said:\n{said}", archive.display())),
+        Err(problem) => fail(&format!("`{COMMAND}` could not be started: {problem}")),
     }
+}
+
+/// Whether a command succeeds, and what it says meanwhile on standard error: the crate that is proved, whom it waits for.
+/// That goes to the terminal at once; cargo would take it for its own.
+fn said_by(mut command: Command) -> io::Result<(bool, String)> {
+    let mut running = command.stdin(Stdio::null()).stdout(Stdio::null()).stderr(Stdio::piped()).spawn()?;
+    let mut said = String::new();
+    if let Some(words) = running.stderr.take() {
+        for line in BufReader::new(words).lines() {
+            let line = line?;
+            tell_terminal(&line);
+            said += &line;
+            said.push('\n');
+        }
+    }
+    Ok((running.wait()?.success(), said))
 }
 
 /// Cargo keeps what a build says to itself until the end; whoever waits at a terminal is told there.
@@ -104,10 +107,9 @@ fn check_machine(archive: &Path, target: &Target) {
         let found = machine.map_or("no machine".to_string(), |number| format!("ELF machine {number}"));
         fail(&format!(
             "{} holds code for {found}, and the target's is {} (62: x86-64, 183: aarch64).\n\
-             `{}` makes the right one",
+             `{COMMAND}` makes the right one",
             archive.display(),
-            target.machine,
-            target.command.join(" ")
+            target.machine
         ));
     }
 }

@@ -20,8 +20,8 @@ UNCALLED = [
 # Files that a command makes in target/, so that a fresh clone has them not.
 MADE = {
     "target/": "rt",
-    "target/staticlib/libc_calls.a": "rt staticlib c_calls",
-    "target/aarch64/libc_calls.a": "tools/arm-archive",
+    "target/staticlib/libc_calls.a": "tools/archives",
+    "target/aarch64/libc_calls.a": "tools/archives",
 }
 
 # Names that are not the project's.

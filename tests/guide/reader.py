@@ -1,10 +1,12 @@
 """The reader's place: a fresh copy of the project in a folder of its own, the files that a page has written, and what commands print."""
+import fcntl
 import os
 import re
 import shutil
 import subprocess
 import tempfile
 import time
+from contextlib import contextmanager
 from dataclasses import dataclass
 from pathlib import Path
 
@@ -66,6 +68,17 @@ def _linked(source, target):
         shutil.copy2(source, target)
 
 
+@contextmanager
+def _while_nothing_is_built(project):
+    """Holds the lock of tools/building.sh."""
+    descriptor = os.open(project, os.O_RDONLY)
+    try:
+        fcntl.flock(descriptor, fcntl.LOCK_EX)
+        yield
+    finally:
+        os.close(descriptor)
+
+
 class Place:
     """`root` is the copy; files that a page names by `../` lie beside it. Its crates must be proved where they come from."""
 
@@ -73,10 +86,11 @@ class Place:
         self.above = Path(tempfile.mkdtemp(prefix="guide-"))
         self.root = self.above / "cinghjalofa"
         shutil.copytree(project, self.root, symlinks=True, ignore=lambda _, names: LEFT_OUT & set(names))
-        for name in PROVED:
-            if (project / "target" / name).is_dir():
-                shutil.copytree(project / "target" / name, self.root / "target" / name, symlinks=True)
-        shutil.copytree(project / "target" / "rlib", self.root / "target" / "rlib", copy_function=_linked)
+        with _while_nothing_is_built(project):
+            for name in PROVED:
+                if (project / "target" / name).is_dir():
+                    shutil.copytree(project / "target" / name, self.root / "target" / name, symlinks=True)
+            shutil.copytree(project / "target" / "rlib", self.root / "target" / "rlib", copy_function=_linked)
 
     def __enter__(self):
         return self
