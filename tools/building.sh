@@ -1,5 +1,5 @@
 # One command at a time builds in target/. To be sourced after begin.sh. Gives
-#   begin_building   waits until no other command builds, and says for whom
+#   begin_building   waits until no other command builds, and says for whom; then sees that there is a place to build in
 #   end_building     lets the next one build
 #   take_turns FILE  waits until no other command holds FILE, and holds it to the end of this one
 #   progress         passes on what rt says of each crate that it proves, from standard input to standard error
@@ -16,6 +16,7 @@ begin_building() {
     take_turns "$root"
     export CINGHJALOFA_LOCK=$lock
   fi
+  find_place
 }
 
 end_building() {
@@ -72,6 +73,20 @@ is_above() {
     at=$(sed -n 's/^PPid:[[:space:]]*//p' "/proc/$at/status" 2>/dev/null)
   done
   return 1
+}
+
+# Without these the kit says "NOT PROVED", or that a run failed.
+find_place() {
+  local said shut try=''
+  said=$({ mkdir -p "$root/target" && echo >"$root/target/.try" && rm "$root/target/.try"; } 2>&1) ||
+    fail "$root/target cannot be written: ${said##*: }"
+  shut=$(find "$root/target/" ! -type l ! -writable -print -quit)
+  [ -z "$shut" ] || fail "$shut cannot be written: it belongs to $(stat -c %U -- "$shut"), and this is $(id -un)"
+  said=$(mktemp -d 2>&1) || fail "no file can be made in ${TMPDIR:-/tmp}, the folder for temporary files: ${said##*: }; TMPDIR may name another"
+  try=$said/try
+  printf '#!/bin/sh\n' >"$try" && chmod +x "$try" && "$try" 2>/dev/null || try=
+  rm -rf "$said"
+  [ -n "$try" ] || fail "no program can be run in ${TMPDIR:-/tmp}, the folder for temporary files (mounted noexec?); TMPDIR may name another"
 }
 
 digest() {
