@@ -34,4 +34,5 @@ ELSEWHERE = {
     "allocate_pages": "in MiniVisor's crate root",
     "set_range": "in MiniVisor's module",
     "compiler_builtins": "Rust's",
+    "/dev/null": "the system's",
 }

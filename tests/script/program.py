@@ -3,7 +3,7 @@ import os
 import subprocess
 import tempfile
 
-ROOT = os.path.abspath(os.path.join(os.path.dirname(__file__), "..", ".."))
+ROOT = os.path.realpath(os.path.join(os.path.dirname(__file__), "..", ".."))
 PROGRAM = [os.path.join(ROOT, "tools", "program"), "script"]
 
 

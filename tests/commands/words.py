@@ -1,0 +1,94 @@
+"""What `./run` is asked by words and by its input, in this project and with its own program."""
+import os
+import pty
+import re
+import tempfile
+from pathlib import Path
+
+from scratch import PROJECT, like, run, shell
+
+CALLS = PROJECT / "crates" / "script" / "stdin"
+ANSWERS = (PROJECT / "crates" / "script" / "stdout").read_text()
+RUN = PROJECT / "run"
+EXAMPLE = like(r"An example session:\n  f 65536 65536         ok\n.*\nusage: ./run FILE.*")
+USAGE = like(r"usage: ./run FILE .*Any other line prints `bad`.*")
+MISUSED = like(r"run: .*\nusage: ./run FILE.*")
+CARRIAGE = "carriage return at the end of every line"
+MARK = "begins with a byte-order mark"
+
+
+def asked_by_words(folder):
+    yield "--help", run([RUN, "--help"]).problem(0, USAGE, "")
+    yield "-h", run([RUN, "-h"]).problem(0, USAGE, "")
+    version, kit = ((PROJECT / name).read_text().strip() for name in ("VERSION", "kit-id"))
+    printed = like(rf"cinghjalofa {version}, proved with {kit}\n(the kit here is .*\n)?")
+    yield "--version", run([RUN, "--version"]).problem(0, printed, "")
+    yield "example", run([RUN, "example"]).problem(0, EXAMPLE, "")
+    yield "-", run([RUN, "-"], stdin=open(CALLS)).problem(0, ANSWERS, "")
+    yield "-- alone", run([RUN, "--"], stdin=open(CALLS)).problem(0, ANSWERS, "")
+    for name in ("-calls", "--help", "-", "example", "--"):
+        (folder / name).write_bytes(CALLS.read_bytes())
+        yield f"-- {name}, a file", run([RUN, "--", name], cwd=folder).problem(0, ANSWERS, "")
+    yield "a file", run([RUN, CALLS]).problem(0, ANSWERS, "")
+
+
+def misused(folder):
+    for words in (["--unknown"], ["-x"], ["-calls"], ["one", "two"], ["--help", "more"], ["--", "one", "two"]):
+        yield f"{' '.join(words)}", run([RUN, *words], cwd=folder).problem(2, "", MISUSED)
+    yield "a file that is not there", run([RUN, folder / "none"]).problem(1, "", f"run: there is no file {folder}/none\n")
+    yield "a folder", run([RUN, folder]).problem(1, "", f"run: {folder} is a folder, and calls are read from a file\n")
+    yield "a file without a name", run([RUN, ""]).problem(1, "", "run: there is no file \n")
+
+
+def nothing_to_answer(folder):
+    empty = folder / "empty"
+    empty.touch()
+    yield "an empty file", run([RUN, empty]).problem(0, "", "")
+    yield "empty input", run([RUN], stdin=open(empty)).problem(0, "", "")
+    yield "an empty pipe", shell(f": | '{RUN}'").problem(0, "", "")
+    yield "/dev/null as input", run([RUN]).problem(0, "", EXAMPLE)
+    yield "/dev/null by name", run([RUN, "/dev/null"]).problem(0, "", "")
+    yield "/dev/null by -", run([RUN, "-"]).problem(0, "", "")
+    master, terminal = pty.openpty()
+    yield "a terminal", run([RUN], stdin=terminal).problem(0, EXAMPLE, "")
+    os.close(master)
+    os.close(terminal)
+
+
+def invisible(folder):
+    """What does not show on a screen; the answers are what they were."""
+    texts = {
+        "every line with a carriage return": (b"l\r\nl\r\n", "bad\nbad\n", CARRIAGE),
+        "one line with a carriage return": (b"l\r\nl\n", "bad\nlist 0 0\n", None),
+        "the last line without one": (b"l\r\nl", "bad\nlist 0 0\n", None),
+        "a byte-order mark": (b"\xef\xbb\xbfl\nl\n", "bad\nlist 0 0\n", MARK),
+        "both": (b"\xef\xbb\xbfl\r\n", "bad\n", f"{MARK}.*{CARRIAGE}"),
+        "UTF-16": ("\ufeffl\n".encode("utf-16-le"), "bad\nbad\n", f"{MARK} of UTF-16"),
+    }
+    file = folder / "calls"
+    for what, (given, answers, remark) in texts.items():
+        file.write_bytes(given)
+        for where, words, whose in (("in a file", [file], str(file)), ("in the input", [], "standard input")):
+            said = re.compile(rf"run: {re.escape(whose)} .*{remark}.*\n") if remark else ""  # in one line
+            yield f"{what}, {where}", run([RUN, *words], stdin=open(file)).problem(0, answers, said)
+    file.write_bytes(b"\xef\xbb\xbfl\nl\r\n")
+    ended = shell(f"{{ read -r first; '{RUN}'; }} <'{file}'")
+    yield "only the rest of the input counts", ended.problem(0, "bad\n", re.compile(rf"run: standard input has a {CARRIAGE}.*\n"))
+
+
+def one_version():
+    manifest = (PROJECT / "rust" / "cinghjalofa" / "Cargo.toml").read_text()
+    version = (PROJECT / "VERSION").read_text().strip()
+    yield "the crate has the project's version", None if f'\nversion = "{version}"\n' in manifest else f"it has not {version}"
+
+
+def cases():
+    built = run([PROJECT / "tools" / "program", "script"])
+    if built.status:
+        yield "the script program", built.problem(0, "", None)
+        return
+    with tempfile.TemporaryDirectory() as folder:
+        for group in (asked_by_words, misused, nothing_to_answer, invisible):
+            for what, problem in group(Path(folder)):
+                yield f"./run: {what}", problem
+    yield from one_version()
