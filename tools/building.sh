@@ -1,5 +1,6 @@
 # One command at a time builds in target/. To be sourced after begin.sh. Gives
-#   begin_building   waits until no other command builds, and says for whom; then sees that there is a place to build in
+#   begin_building   waits until no other command builds, and says for whom
+#   find_place       sees that there is a place to build in, or says what is wrong with it
 #   end_building     lets the next one build
 #   take_turns FILE  waits until no other command holds FILE, and holds it to the end of this one
 #   progress         passes on what rt says of each crate that it proves, from standard input to standard error
@@ -16,7 +17,6 @@ begin_building() {
     take_turns "$root"
     export CINGHJALOFA_LOCK=$lock
   fi
-  find_place
 }
 
 end_building() {
@@ -43,7 +43,7 @@ take_turns() {
     [ "$status" -eq 75 ] || fail "$1 cannot be locked: flock ended with status $status"
     other=$(holder "$1")
     [ -z "${CINGHJALOFA_LOCK:-}" ] || ! is_above "$other" ||
-      fail "its caller, process $other, builds, and has not handed on descriptor $CINGHJALOFA_LOCK, which is the lock"
+      fail "its caller, process $other, builds and has not handed on the lock, descriptor $CINGHJALOFA_LOCK"
     words=$(described "$other")
     [ "$words" = "$told" ] || say "waits for $words"
     told=$words

@@ -67,6 +67,14 @@ def shut_target(scratch):
     said = like(rf"run: {re.escape(str(target))}/stamp\S* cannot be written: it belongs to \S+, and this is {name_of(user)}\n")
     yield "a part of target/ that cannot be written", scratch.run(["./run", "crates.txt"], **user).problem(1, "", said)
     yield "then nothing is built", None if not scratch.asked() else "it is"
+    target.chmod(0o755)
+    (target / "stamp" / "rules").unlink()
+    scratch.build()
+    scratch.run(["tools/archives"])
+    target.chmod(0o555)
+    yield "a program that is built needs no place", scratch.run(["./run", "crates.txt"], **user).problem(0, "ok\nok\n", "")
+    ended = scratch.run(["tools/archives"], **user)
+    yield "nor do archives that are made", None if ended.out.endswith(MADE) else ended.problem(0, MADE, "")
 
 
 def able_to_mount(folder):

@@ -114,6 +114,8 @@ class Scratch:
         return self
 
     def __exit__(self, *_):
+        if (self.root / "target").exists():
+            (self.root / "target").chmod(0o755)
         shutil.rmtree(self.above, ignore_errors=True)
 
     def _make_project(self, program):

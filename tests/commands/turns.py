@@ -92,7 +92,7 @@ def handed_on(scratch):
     yield "a tool that a holder calls does not wait for it", ended.problem(0, None, None)
     calls = "import subprocess, sys; sys.exit(subprocess.run(['tools/archives']).returncode)"  # closes what it inherits
     ended = scratch.run(["tools/locked", "python3", "-c", calls])
-    said = like(r"arm-archive: its caller, process \d+, builds, and has not handed on descriptor \d+, which is the lock\n")
+    said = like(r"arm-archive: its caller, process \d+, builds and has not handed on the lock, descriptor \d+\n")
     yield "where the lock is not handed on, that is said", ended.problem(1, "", said)
 
 
