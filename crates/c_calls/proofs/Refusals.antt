@@ -12,12 +12,12 @@ use Rattle.answers.specs.declared.Answer.the-variants.{Accepted, NoEntry, Inval
 use Rattle.serving.specs.declared.Outcome.{Outcome}
 use Rattle.bytes_be.specs.Numbers.{Bytes}
 use Rattle.image_parts.specs.Layout.{Layout, imageSize}
-use Rattle.image.specs.Writing.{imageOf}
+use Rattle.image.specs.Writing.{imageOf, Image}
 use Rattle.image.proofs.Fitting.{Lawful}
 use Rattle.image.proofs.Ways.{framed-not, unframed}
-use Rattle.image.proofs.Rounds.{Image, refused-exactly}
+use Rattle.image.proofs.Rounds.{refused-exactly}
 use Rattle.c_calls.specs.CCalls.{Returned, returned, signedOf, isAccepted, finished, over, callOver, newOver}
-use Rattle.c_calls.specs.Histories.{numberFrom}
+use Rattle.c_calls.specs.Images.{numberFrom}
 use Rattle.c_calls.proofs.Ways.{no-room}
 
 module _ (f : Layout) (l : List ℕ) where

@@ -18,10 +18,9 @@ use Rattle.soundness.proofs.Exact.{sound-passes}
 use Rattle.answers.specs.Answers.{addressOf}
 use Rattle.answers.specs.declared.Answer.{Answer}
 use Rattle.answers.specs.declared.Answer.the-variants.{Accepted, NoEntry, InvalidEntry, NoMemory, InvalidRequest}
-use Rattle.serving.specs.Made.{held}
 use Rattle.serving.specs.Made.{made}
 use Rattle.serving.specs.declared.Outcome.{Outcome}
-use Rattle.memory_allocator.proofs.Steps.{made-held, made-voucher}
+use Rattle.memory_allocator.proofs.Steps.{made-voucher}
 use Rattle.bytes_be.specs.Numbers.{Bytes}
 use Rattle.image_parts.specs.Layout.{Layout, imageSize}
 use Rattle.image.specs.Writing as writing
@@ -38,11 +37,8 @@ use Rattle.c_calls.proofs.Below.{step-below}
 pub small-pool : (f : Layout) → Lawful f → f .records ≤ none
 small-pool f lawful = let h = lawful .records in let k = lawful .links in omega arith
 
--- a call on a sound state is the rule's on its book
-pub made-step : (n : ℕ) → n ≤ none → (s : MemoryAllocator) (c : Call) → SoundState n s → made n s c ≡ held n (step n c (bookOf n s))
-made-step n small s c h = ap (λ (t : MemoryAllocator). made n t c) (sym (h .state)) ∙ made-held n small (bookOf n s) c (h .book)
-
-pub made-address : (n : ℕ) → n ≤ none → (s : MemoryAllocator) (c : Call) → SoundState n s → addressOf (made n s c .answer) ≡ step n c (bookOf n s) .address
+-- a call on a sound state answers the rule's address on its book
+made-address : (n : ℕ) → n ≤ none → (s : MemoryAllocator) (c : Call) → SoundState n s → addressOf (made n s c .answer) ≡ step n c (bookOf n s) .address
 made-address n small s c h = ap (λ (t : MemoryAllocator). addressOf (made n t c .answer)) (sym (h .state)) ∙ ap (λ (v : Voucher). v .address) (made-voucher n small (bookOf n s) c (h .book))
 
 -- ---- an outcome

@@ -2,8 +2,10 @@
 use Prim.Native.Nat.{ℕ}
 use mathlib.Core.Bool.{Bool, false, cond, _&&_}
 use mathlib.Core.List.{List, _++_}
+use mathlib.Core.Path.{_≡_}
 use lib.Dec.{eqb}
 use lib.ListN.{length, getD}
+use Rattle.state.specs.Sound.{SoundState}
 use Rattle.state.specs.declared.MemoryAllocator.{MemoryAllocator}
 use Rattle.sound.specs.IsSound.{isSound}
 use Rattle.image_parts.specs.Layout.{Layout, imageSize}
@@ -30,6 +32,12 @@ entryAt s = entryOf (s .start) (s .end) (s .enabled) (s .previous) (s .next) (s 
 -- the image of a state
 unfoldable pub imageOf : Layout → MemoryAllocator → List ℕ
 imageOf f s = headBytes f (s .«free_size») (s .«first_entry» .0) (s .«free_list») ++ joined (f .records) 0 (λ i. recordBytes f (entryAt s i))
+
+-- l is the image of a sound state
+pub record Image (f : Layout) (l : List ℕ) : Type 0 where
+  pub state : MemoryAllocator
+  pub sound : SoundState (f .records) state
+  pub bytes : imageOf f state ≡ l
 
 -- the number of an answer
 abbrev pub numberOf : ImageAnswer → ℕ

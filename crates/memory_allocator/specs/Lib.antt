@@ -1,3 +1,3 @@
--- What the allocator promises, and what its lists of calls leave.
+-- What the allocator promises, and what is kept of its calls.
 pub mod Promises
-pub mod Histories
+pub mod States

@@ -1,13 +1,11 @@
--- Demand 3, over any list of calls. Assumes nothing.
+-- What one call does to the free bytes. Assumes nothing.
 use mathlib.Core.Path.{_≡_, refl, sym, _∙_, ap}
 use mathlib.Core.Logic.{_⊎_, inl, inr}
 use mathlib.Core.Bool.{Bool, false, not, cond, _&&_}
-use mathlib.Core.List.{List, [], _∷_}
-use mathlib.Core.Option.{Option, none, some}
 use Prim.Native.Nat.{ℕ, _-_, _≤_, _<_}
 use native.Mathlib.Omega.{arith}
 use lib.Dec.{T, leb, ltb, eqb, leb→le, nleb→lt, le→leb, lt→ltb, ltb→lt, nltb→le, eqb→eq, not-T}
-use Rattle.rules.specs.Rules.{Book, freeAt, taken, given, Answer, refused, Call, step, run, Voucher, voucher, trail, frees, from, past, covers, lastCovering, said}
+use Rattle.rules.specs.Rules.{Book, freeAt, taken, given, Answer, refused, Call, step, voucher, frees, from, past, covers}
 use Rattle.laws.proofs.Lists.{if, and-l, and-r, and-i, T-no, T-or-not, T-true, T-false, same-test}
 use Rattle.rules.specs.Sound.{Sound}
 use Rattle.laws.proofs.Kept.{taken-sound, taken-free→, taken-free←, given-sound, given-free→, given-free←, free→, free←}
@@ -64,29 +62,14 @@ after-covers n b c s _ (took y r f h) x t = let i = inside→ (from c y) (past c
 after-covers n b c s _ (gave f h) x t = let i = inside→ (from c 0) (past c 0) x t in
     is-false (freeAt b x) (λ p. let w = free→ b x p in elim (h .clear (w .0) (w .1)) [ inl g ↦ omega arith | inr g ↦ omega arith ]) ∙ sym (ap not (T-true (frees c) f))
 
--- ---- any list of calls
+-- ---- any call
 
 pub step-sound : (n : ℕ) (b : Book) (c : Call) → Sound n b → Sound n (step n c b .book)
 step-sound n b c s = after-sound n b c s (step n c b) (outcome n b c s)
 
-pub run-sound : (n : ℕ) (b : Book) (cs : List Call) → Sound n b → Sound n (run n b cs)
-unfolding run
-run-sound n b [] s = s
-run-sound n b (c ∷ cs) s = run-sound n (step n c b .book) cs (step-sound n b c s)
-
--- a call more, before the others
-earlier : (e : Voucher) (x : ℕ) (d : Bool) (m : Option Voucher)
-    → said (cond (covers e x) (frees (e .call)) d) m ≡ said d (elim m [ none ↦ cond (covers e x) (some e) none | some f ↦ some f ])
-earlier e x d none = if (covers e x) (λ o. said (cond (covers e x) (frees (e .call)) d) none ≡ said d o) (λ t. rw (T-true (covers e x) t)) (λ t. rw (T-false (covers e x) t))
-earlier e x d (some f) = refl
-
-pub run-free : (n : ℕ) (b : Book) (cs : List Call) → Sound n b → (x : ℕ) → freeAt (run n b cs) x ≡ said (freeAt b x) (lastCovering x (trail n b cs))
-unfolding run trail lastCovering
-run-free n b [] s x = refl
-run-free n b (c ∷ cs) s x = let e = voucher c (step n c b) in let b′ = step n c b .book in
-    run-free n b′ cs (step-sound n b c s) x
-    ∙ (ap (λ (d : Bool). said d (lastCovering x (trail n b′ cs))) (after-free n b c s (step n c b) (outcome n b c s) x)
-    ∙ earlier e x (freeAt b x) (lastCovering x (trail n b′ cs)))
+-- a byte that the call covers is free exactly if the call was a free; any other is as it was
+pub step-free : (n : ℕ) (b : Book) (c : Call) → Sound n b → (x : ℕ) → freeAt (step n c b .book) x ≡ cond (covers (voucher c (step n c b)) x) (frees c) (freeAt b x)
+step-free n b c s = after-free n b c s (step n c b) (outcome n b c s)
 
 pub step-covers : (n : ℕ) (b : Book) (c : Call) → Sound n b → (x : ℕ) → T (covers (voucher c (step n c b)) x) → freeAt b x ≡ not (frees c)
 step-covers n b c s = after-covers n b c s (step n c b) (outcome n b c s)

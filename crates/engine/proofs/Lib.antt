@@ -1,0 +1,3 @@
+-- An engine that follows the rules meets demand 3.
+pub mod Follows
+pub mod Demand
