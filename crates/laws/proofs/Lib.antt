@@ -7,3 +7,4 @@ pub mod Bytes
 pub mod HandBack
 pub mod Facts
 pub mod Shelf
+pub mod Sums

@@ -13,7 +13,10 @@ use lib.ListN.{length}
 abbrev pub top : ℕ
 top = 2 ^ 63
 
--- the number of size lists
+-- the number of records, and of size lists
+abbrev pub records : ℕ
+records = 64
+
 abbrev pub sizeLists : ℕ
 sizeLists = 12
 
