@@ -1,20 +1,20 @@
 // The answer to one line of the script: the call is made, and its text goes into a buffer.
-use accounts::listing;
-use accounts::total;
 use lines::parse::Line;
 use lines::parse::parse_line;
+use memory_allocator::Address;
+use memory_allocator::MemoryAllocator;
+use memory_allocator::Outcome;
+use memory_allocator::POOL;
 use memory_allocator::allocate;
 use memory_allocator::free;
+use memory_allocator::listing;
 use memory_allocator::reserve_memory;
+use memory_allocator::total;
 use replies::ROOM;
 use replies::number_of;
 use replies::put_moved;
 use replies::put_placed;
 use replies::put_table;
-use serving::Outcome;
-use state::Address;
-use state::MemoryAllocator;
-use state::POOL;
 use texts::put_bad;
 use texts::put_no;
 ghost use mathlib.Core.Path.{_≡_};

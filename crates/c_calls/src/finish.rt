@@ -1,7 +1,7 @@
 // What every C call does with an outcome.
-use answers::Answer;
 use image::write_state;
-use serving::Outcome;
+use memory_allocator::Answer;
+use memory_allocator::Outcome;
 ghost use mathlib.Core.Path.{_≡_};
 ghost use Prim.Native.Nat.{_<_};
 ghost use Rattle.rules.specs.Rules.{top};

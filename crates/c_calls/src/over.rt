@@ -3,7 +3,7 @@ use crate::finish::INVALID_ENTRY;
 use crate::finish::finish_call;
 use image::ImageAnswer;
 use image::read_image;
-use requests::Request;
+use memory_allocator::Request;
 use serving::serve_sound;
 ghost use mathlib.Core.Path.{_≡_};
 ghost use Rattle.image_parts.specs.Layout.{current};
