@@ -19,7 +19,7 @@ ghost use Rattle.state.specs.State.{arrays, Holds};
 ghost use Rattle.answers.specs.Answers.{Answers};
 
 // The bytes from `address` to before `past` are taken, if one range has them all and others remain.
-pub fn reserve_piece(
+fn reserve_piece(
     total: &mut u64,
     first: &mut u16,
     heads: &mut [u16; LISTS],
@@ -65,7 +65,7 @@ pub fn reserve_piece(
     }
 }
 
-// A piece, widened to multiples of 2^order, is taken.
+// Document 01's lines for a reservation, one after the other; what passes them is widened to multiples of 2^order, and served.
 pub fn reserve_in(
     total: &mut u64,
     first: &mut u16,
