@@ -10,10 +10,10 @@ use state::MAX_ORDER;
 use state::POOL;
 use take::define_used_memory;
 ghost use Prim.Native.Nat.{_+_, _<_, _≤_};
-ghost use Rattle.rules.specs.Rules.{Book, allocate, allocateFrom, find, fits};
+ghost use Rattle.rules.specs.Rules.{allocate, allocateFrom, find, fits};
 ghost use Rattle.state.specs.Shown.{pool};
-ghost use Rattle.state.specs.State.{arrays, Holds};
-ghost use Rattle.answers.specs.Answers.{Answers};
+ghost use Rattle.state.specs.Lent.{HoldsSome};
+ghost use Rattle.answers.specs.Answers.{Follows};
 
 // `size` bytes are taken from the first range of the shelf that fits, if there is one.
 fn allocate_fit(
@@ -30,9 +30,9 @@ fn allocate_fit(
     size: u64,
     order: u64,
 ) -> Answer
-    requires { ⌜ ((b : Book) × Holds pool b (arrays (now total) (now first) (now heads) (now start) (now end) (now enabled) (now previous) (now next) (now lprev) (now lnext))) ⌝ }
+    requires { ⌜ HoldsSome pool total first heads start end enabled previous next lprev lnext ⌝ }
     requires { ⌜ (0 < size) × (order ≤ 63) ⌝ }
-    ensures { λ k. ⌜ ((b : Book) → Holds pool b (arrays (now (total .entry)) (now (first .entry)) (now (heads .entry)) (now (start .entry)) (now (end .entry)) (now (enabled .entry)) (now (previous .entry)) (now (next .entry)) (now (lprev .entry)) (now (lnext .entry))) → Answers pool (allocateFrom pool size order b (find (fits size order) (b .shelf))) k (arrays (now (total .exit)) (now (first .exit)) (now (heads .exit)) (now (start .exit)) (now (end .exit)) (now (enabled .exit)) (now (previous .exit)) (now (next .exit)) (now (lprev .exit)) (now (lnext .exit)))) ⌝ }
+    ensures { λ k. ⌜ Follows pool (λ b. allocateFrom pool size order b (find (fits size order) (b .shelf))) k total first heads start end enabled previous next lprev lnext ⌝ }
 {
     let fit = find_fit(start, end, lnext, heads, size, order);
     let Hit::At(i) = fit else {
@@ -76,8 +76,8 @@ pub fn allocate_in(
     size: u64,
     order: u64,
 ) -> Answer
-    requires { ⌜ ((b : Book) × Holds pool b (arrays (now total) (now first) (now heads) (now start) (now end) (now enabled) (now previous) (now next) (now lprev) (now lnext))) ⌝ }
-    ensures { λ k. ⌜ ((b : Book) → Holds pool b (arrays (now (total .entry)) (now (first .entry)) (now (heads .entry)) (now (start .entry)) (now (end .entry)) (now (enabled .entry)) (now (previous .entry)) (now (next .entry)) (now (lprev .entry)) (now (lnext .entry))) → Answers pool (allocate pool size order b) k (arrays (now (total .exit)) (now (first .exit)) (now (heads .exit)) (now (start .exit)) (now (end .exit)) (now (enabled .exit)) (now (previous .exit)) (now (next .exit)) (now (lprev .exit)) (now (lnext .exit)))) ⌝ }
+    requires { ⌜ HoldsSome pool total first heads start end enabled previous next lprev lnext ⌝ }
+    ensures { λ k. ⌜ Follows pool (allocate pool size order) k total first heads start end enabled previous next lprev lnext ⌝ }
 {
     if size == 0 {
         return Answer::InvalidRequest;

@@ -10,10 +10,10 @@ use state::POOL;
 use state::RecordIndex;
 use state::TOP;
 ghost use Prim.Native.Nat.{_+_, _<_, _≤_};
-ghost use Rattle.rules.specs.Rules.{top, Book, free};
+ghost use Rattle.rules.specs.Rules.{top, free};
 ghost use Rattle.state.specs.Shown.{pool};
-ghost use Rattle.state.specs.State.{arrays, Holds};
-ghost use Rattle.answers.specs.Answers.{Answers};
+ghost use Rattle.state.specs.Lent.{HoldsSome};
+ghost use Rattle.answers.specs.Answers.{Follows};
 ghost use Rattle.freeing.specs.Free.{freeFrom};
 
 // The bytes from `address` to before `past` become free, if none of them is.
@@ -31,9 +31,9 @@ fn free_piece(
     address: Address,
     past: Address,
 ) -> Answer
-    requires { ⌜ ((b : Book) × Holds pool b (arrays (now total) (now first) (now heads) (now start) (now end) (now enabled) (now previous) (now next) (now lprev) (now lnext))) ⌝ }
+    requires { ⌜ HoldsSome pool total first heads start end enabled previous next lprev lnext ⌝ }
     requires { ⌜ (address .0 < past .0) × (past .0 ≤ top) ⌝ }
-    ensures { λ k. ⌜ ((b : Book) → Holds pool b (arrays (now (total .entry)) (now (first .entry)) (now (heads .entry)) (now (start .entry)) (now (end .entry)) (now (enabled .entry)) (now (previous .entry)) (now (next .entry)) (now (lprev .entry)) (now (lnext .entry))) → Answers pool (freeFrom pool (address .0) (past .0) b) k (arrays (now (total .exit)) (now (first .exit)) (now (heads .exit)) (now (start .exit)) (now (end .exit)) (now (enabled .exit)) (now (previous .exit)) (now (next .exit)) (now (lprev .exit)) (now (lnext .exit)))) ⌝ }
+    ensures { λ k. ⌜ Follows pool (freeFrom pool (address .0) (past .0)) k total first heads start end enabled previous next lprev lnext ⌝ }
 {
     let gap = search_entry_previous_address(start, next, RecordIndex(*first), address);
     let before = gap.before;
@@ -78,8 +78,8 @@ pub fn free_in(
     address: Address,
     size: u64,
 ) -> Answer
-    requires { ⌜ ((b : Book) × Holds pool b (arrays (now total) (now first) (now heads) (now start) (now end) (now enabled) (now previous) (now next) (now lprev) (now lnext))) ⌝ }
-    ensures { λ k. ⌜ ((b : Book) → Holds pool b (arrays (now (total .entry)) (now (first .entry)) (now (heads .entry)) (now (start .entry)) (now (end .entry)) (now (enabled .entry)) (now (previous .entry)) (now (next .entry)) (now (lprev .entry)) (now (lnext .entry))) → Answers pool (free pool (address .0) size b) k (arrays (now (total .exit)) (now (first .exit)) (now (heads .exit)) (now (start .exit)) (now (end .exit)) (now (enabled .exit)) (now (previous .exit)) (now (next .exit)) (now (lprev .exit)) (now (lnext .exit)))) ⌝ }
+    requires { ⌜ HoldsSome pool total first heads start end enabled previous next lprev lnext ⌝ }
+    ensures { λ k. ⌜ Follows pool (free pool (address .0) size) k total first heads start end enabled previous next lprev lnext ⌝ }
 {
     if size == 0 {
         return Answer::InvalidRequest;
