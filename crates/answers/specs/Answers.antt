@@ -3,6 +3,7 @@ use Prim.Native.Nat.{ℕ}
 use mathlib.Core.Path.{_≡_}
 use Rattle.rules.specs.Rules as rules
 use Rattle.state.specs.State.{Holds}
+use Rattle.state.specs.Lent.{OfLent, turns}
 use Rattle.state.specs.declared.MemoryAllocator.{MemoryAllocator}
 use Rattle.answers.specs.declared.Answer.{Answer}
 use Rattle.answers.specs.declared.Answer.the-variants.{Accepted, NoEntry, InvalidEntry, NoMemory, InvalidRequest}
@@ -26,3 +27,7 @@ pub record Answers (n : ℕ) (w : rules.Answer) (k : Answer) (s : MemoryAllocato
   pub number : numberOf k ≡ w .number
   pub address : addressOf k ≡ w .address
   pub book : Holds n (w .book) s
+
+-- of every book that the lent fields held, k is the rule's answer, and they hold the book that it leaves
+abbrev pub Follows : ℕ → (rules.Book → rules.Answer) → Answer → OfLent
+Follows n rule k = turns (λ s s′. (b : rules.Book) → Holds n b s → Answers n (rule b) k s′)
