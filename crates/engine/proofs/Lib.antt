@@ -1,3 +1,3 @@
--- An engine that follows the rules meets demand 3.
-pub mod Follows
+-- An engine that obeys the rules meets demand 3.
+pub mod Obeys
 pub mod Demand
