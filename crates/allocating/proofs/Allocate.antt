@@ -7,7 +7,7 @@ use lib.ListN.{getD}
 use lib.Dec.{leb, leb→le}
 use native.Mathlib.Omega.{arith}
 use borrow.Author.Tests.{eq-eqb, ne-eqb, lt-ltb, le-ltb, le-leb, lt-leb}
-use Rattle.rules.specs.Rules.{top, Range, Book, accepted, refused, refuse, allocate, allocateFrom, total, taken, up, fits, find}
+use Rattle.rules.specs.Rules.{top, Range, Book, Answer, accepted, refused, refuse, allocate, allocateFrom, total, taken, up, fits, find}
 use Rattle.laws.proofs.Lists.{found}
 use Rattle.laws.proofs.Outcomes.{le-up}
 use Rattle.state.specs.State.{Holds}
@@ -16,7 +16,8 @@ use Rattle.state.specs.declared.MemoryAllocator.{MemoryAllocator}
 use Rattle.links.specs.Hits.{hitOf}
 use Rattle.links.specs.declared.Hit.the-variants.{At, Nothing}
 use Rattle.take.specs.Take.{Asks, refuses}
-use Rattle.answers.proofs.Endings.{hit-at, hit-nothing, stands-at}
+use Rattle.links.proofs.Hits.{hit-at, hit-nothing}
+use Rattle.state.proofs.States.{stands-at}
 
 module _ (n z o : ℕ) (b : Book) where
   pub zero-size : z ≡ 0 → allocate n z o b ≡ refused 4 b
@@ -31,40 +32,43 @@ module _ (n z o : ℕ) (b : Book) where
   unfolding allocate refuse
   too-few e h g = rw (ne-eqb z 0 e, le-ltb 63 o h, le-leb (total b) z g)
 
-  module _ (e : z ≢ 0) (h : o ≤ 63) (g : z < total b) where
-    searched : allocate n z o b ≡ allocateFrom n z o b (find (fits z o) (b .shelf))
-    unfolding allocate refuse
-    searched = rw (ne-eqb z 0 e, le-ltb 63 o h, lt-leb (total b) z g)
+  pub searched : z ≢ 0 → o ≤ 63 → z < total b → allocate n z o b ≡ allocateFrom n z o b (find (fits z o) (b .shelf))
+  unfolding allocate refuse
+  searched e h g = rw (ne-eqb z 0 e, le-ltb 63 o h, lt-leb (total b) z g)
 
-    pub none-fits : Nothing ≡ hitOf (find (fits z o) (b .shelf)) → allocate n z o b ≡ refused 3 b
-    unfolding allocateFrom
-    none-fits q = searched ∙ ap (allocateFrom n z o b) (hit-nothing (fits z o) (b .shelf) q)
+  abbrev rule : Answer
+  rule = allocateFrom n z o b (find (fits z o) (b .shelf))
 
-    -- the range that was found, and what the answer is
-    pub record Fitted (s : MemoryAllocator) (i a : ℕ) : Type 0 where
-      pub range : Range
-      pub asks : Asks n b s i a (a + z) range
-      pub answer : allocate n z o b ≡ cond (refuses n b range a (a + z)) (refused 1 b) (accepted a (taken n range a (a + z) b))
+  pub none-fits : Nothing ≡ hitOf (find (fits z o) (b .shelf)) → rule ≡ refused 3 b
+  unfolding allocateFrom
+  none-fits q = ap (allocateFrom n z o b) (hit-nothing (fits z o) (b .shelf) q)
 
-    pub fitted : (s : MemoryAllocator) (j : RecordIndex) (a : ℕ) → Holds n b s → At j ≡ hitOf (find (fits z o) (b .shelf)) → a ≡ up o (getD (s .start) (j .0) 0) → Fitted s (j .0) a
-    unfolding allocateFrom refuse
-    fitted s j a hs q f =
-        let w = hit-at (fits z o) (b .shelf) j q in
-        let r = w .0 in
-        let m = hs .shape .sound .same r .1 (w .1) in
-        let ea : a ≡ up o (r .start) = f ∙ ap (up o) (stands-at n b s hs (j .0) r (w .3) m .1) in
-        record {
-          range = r;
-          asks = record {
-            holds = hs;
-            member = m;
-            number = w .3;
-            from = rw ea (le-up o (r .start));
-            some-byte = omega arith;
-            to = rw ea (leb→le (up o (r .start) + z) (suc (r .last)) (w .2));
-          };
-          answer = searched ∙ ap (allocateFrom n z o b) (w .4) ∙ ap (λ (x : ℕ). cond (refuses n b r x (x + z)) (refused 1 b) (accepted x (taken n r x (x + z) b))) (sym ea);
-        }
+  -- the range that was found, and what the answer is
+  pub record Fitted (s : MemoryAllocator) (i a : ℕ) : Type 0 where
+    pub range : Range
+    pub asks : Asks n b s i a (a + z) range
+    pub answer : rule ≡ cond (refuses n b range a (a + z)) (refused 1 b) (accepted a (taken n range a (a + z) b))
+
+  pub fitted : 0 < z → (s : MemoryAllocator) (j : RecordIndex) (a : ℕ) → Holds n b s → At j ≡ hitOf (find (fits z o) (b .shelf)) → a ≡ up o (getD (s .start) (j .0) 0)
+      → Fitted s (j .0) a
+  unfolding allocateFrom refuse
+  fitted some s j a hs q f =
+      let w = hit-at (fits z o) (b .shelf) j q in
+      let r = w .0 in
+      let m = hs .shape .sound .same r .1 (w .1) in
+      let ea : a ≡ up o (r .start) = f ∙ ap (up o) (stands-at n b s hs (j .0) r (w .3) m .1) in
+      record {
+        range = r;
+        asks = record {
+          holds = hs;
+          member = m;
+          number = w .3;
+          from = rw ea (le-up o (r .start));
+          some-byte = omega arith;
+          to = rw ea (leb→le (up o (r .start) + z) (suc (r .last)) (w .2));
+        };
+        answer = ap (allocateFrom n z o b) (w .4) ∙ ap (λ (x : ℕ). cond (refuses n b r x (x + z)) (refused 1 b) (accepted x (taken n r x (x + z) b))) (sym ea);
+      }
 
   -- the record that was found has a range below the top, and the request ends there
   pub fit-known : (s : MemoryAllocator) (j : RecordIndex) → Holds n b s → At j ≡ hitOf (find (fits z o) (b .shelf))

@@ -1,40 +1,24 @@
 -- A call on the image of a sound state is the call on that state. Assumes nothing.
 use Prim.Native.Nat.{ℕ}
 use mathlib.Core.Bool.{Bool, true, false, cond}
-use mathlib.Core.List.{List, [], _∷_}
 use mathlib.Core.Logic.{_≢_}
-use mathlib.Core.Path.{_≡_, refl, sym, ap, _∙_, subst}
+use mathlib.Core.Path.{_≡_, refl, sym, ap, _∙_}
 use borrow.Author.Tests.{eqb-false}
-use Rattle.rules.specs.Rules.{Call, step}
-use Rattle.laws.proofs.History.{step-sound}
-use Rattle.state.specs.State.{stateOf}
-use Rattle.state.specs.Sound.{bookOf, SoundState}
+use Rattle.rules.specs.Rules.{Call}
+use Rattle.state.specs.Sound.{SoundState}
 use Rattle.state.specs.declared.MemoryAllocator.{MemoryAllocator}
-use Rattle.state.proofs.States.{state-holds}
-use Rattle.state.proofs.Book.{holds-sound}
 use Rattle.soundness.proofs.Exact.{sound-sized}
-use Rattle.answers.specs.Answers.{numberOf}
-use Rattle.answers.specs.declared.Answer.{Answer}
-use Rattle.answers.specs.declared.Answer.the-variants.{Accepted, NoEntry, InvalidEntry, NoMemory, InvalidRequest}
-use Rattle.memory_allocator.specs.Histories.{after, voucherOf, vouchers}
+use Rattle.calls.specs.Calls.{numberOf, isAccepted, voucherOf, voucherFrom}
+use Rattle.calls.proofs.Numbers.{signed-voucher}
 use Rattle.serving.specs.Made.{made}
-use Rattle.serving.specs.declared.Outcome.{Outcome}
-use Rattle.memory_allocator.proofs.Demand.{refused-same}
+use Rattle.calls.specs.declared.Outcome.{Outcome}
+use Rattle.memory_allocator.proofs.Refusals.{refused-same}
 use Rattle.image_parts.specs.Layout.{Layout}
 use Rattle.image.specs.Writing.{imageOf}
 use Rattle.image.proofs.Fitting.{Lawful}
 use Rattle.image.proofs.Rounds.{read-written}
-use Rattle.c_calls.specs.CCalls.{Returned, signedOf, isAccepted, finished, over, callOver}
-use Rattle.c_calls.specs.Histories.{imageAfter, voucherFrom, vouchersOver}
-use Rattle.c_calls.proofs.Ways.{small-pool, made-step}
-
--- the voucher of a signed answer is the answer's
-signed-voucher : (c : Call) (s : MemoryAllocator) (k : Answer) → voucherFrom c (signedOf k) ≡ voucherOf c (record { answer = k; state = s })
-signed-voucher c s (Accepted a) = refl
-signed-voucher c s NoEntry = refl
-signed-voucher c s InvalidEntry = refl
-signed-voucher c s NoMemory = refl
-signed-voucher c s InvalidRequest = refl
+use Rattle.c_calls.specs.CCalls.{Returned, finished, over, callOver}
+use Rattle.c_calls.proofs.Ways.{small-pool}
 
 -- over the image of the state that a refusal hands back, every outcome leaves the image of its state
 leaves-image : (f : Layout) (r : Outcome) (s : MemoryAllocator) → (numberOf (r .answer) ≢ 0 → r .state ≡ s) → finished f r (imageOf f s) .bytes ≡ imageOf f (r .state)
@@ -58,25 +42,6 @@ module _ (f : Layout) (lawful : Lawful f) where
     pub call-bytes : callOver f c (imageOf f s) .bytes ≡ imageOf f (made n s c .state)
     call-bytes = ap (λ (x : Returned). x .bytes) call-image ∙ leaves-image f (made n s c) s (refused-same n (small-pool f lawful) s c (sound-sized n (small-pool f lawful) s h))
 
-    pub call-voucher : voucherFrom c (callOver f c (imageOf f s) .number) ≡ voucherOf c (made n s c)
+    pub call-voucher : voucherFrom c (callOver f c (imageOf f s) .number) ≡ voucherOf c (made n s c .answer)
     unfolding finished
-    call-voucher = ap (λ (x : Returned). voucherFrom c (x .number)) call-image ∙ signed-voucher c (made n s c .state) (made n s c .answer)
-
-    pub stays-sound : SoundState n (made n s c .state)
-    stays-sound =
-        let b = step n c (bookOf n s) .book in
-        let e : made n s c .state ≡ stateOf n b = ap (λ (r : Outcome). r .state) (made-step n (small-pool f lawful) s c h) in
-        subst (SoundState n) (sym e) (holds-sound n (small-pool f lawful) b (stateOf n b) (state-holds n b (step-sound n (bookOf n s) c (h .book))))
-
-  pub images-after : (s : MemoryAllocator) (cs : List Call) → SoundState n s → imageAfter f (imageOf f s) cs ≡ imageOf f (after n s cs)
-  unfolding imageAfter after
-  images-after s [] h = refl
-  images-after s (c ∷ cs) h = ap (λ (l : List ℕ). imageAfter f l cs) (call-bytes s h c) ∙ images-after (made n s c .state) cs (stays-sound s h c)
-
-  pub vouchers-same : (s : MemoryAllocator) (cs : List Call) → SoundState n s → vouchersOver f (imageOf f s) cs ≡ vouchers n s cs
-  unfolding vouchersOver vouchers
-  vouchers-same s [] h = refl
-  vouchers-same s (c ∷ cs) h =
-      let e = call-voucher s h c in
-      let g = ap (λ (l : List ℕ). vouchersOver f l cs) (call-bytes s h c) ∙ vouchers-same (made n s c .state) cs (stays-sound s h c) in
-      (λ z. e z ∷ g z)
+    call-voucher = ap (λ (x : Returned). voucherFrom c (x .number)) call-image ∙ signed-voucher c (made n s c .answer)

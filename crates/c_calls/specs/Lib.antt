@@ -1,3 +1,3 @@
--- What the contracts of the C calls cite, and what lists of them leave.
+-- What the contracts of the C calls cite, and what is kept of the calls.
 pub mod CCalls
-pub mod Histories
+pub mod Images

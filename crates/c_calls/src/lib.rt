@@ -1,13 +1,13 @@
 // The calls as C has them: over a lent image, with one signed number as the answer.
-use answers::Answer;
-use finish::INVALID_ENTRY;
+use calls::INVALID_ENTRY;
 use finish::finish_call;
 use image_parts::layout::IMAGE;
+use memory_allocator::Address;
+use memory_allocator::Answer;
+use memory_allocator::Outcome;
+use memory_allocator::Request;
 use memory_allocator::new;
 use over::call_over;
-use requests::Request;
-use serving::Outcome;
-use state::Address;
 ghost use mathlib.Core.Path.{_≡_};
 ghost use Rattle.image_parts.specs.Layout.{current};
 ghost use Rattle.c_calls.specs.CCalls.{returned, newOver, allocateOver, reserveOver, freeOver};

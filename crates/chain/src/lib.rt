@@ -14,17 +14,18 @@ ghost use mathlib.Core.Bool.{true, _&&_};
 ghost use lib.Dec.{eqb, leb, ltb};
 ghost use lib.ListN.{getD, length};
 ghost use Prim.Native.Nat.{ℕ, _<_, _≤_};
-ghost use mathlib.Core.List.{List, _++_, _∷_};
+ghost use mathlib.Core.List.{List};
 ghost use Rattle.lists.specs.Links.{has, head};
-ghost use Rattle.rules.specs.Rules.{top, Range, startOf, any, find, contains, meets, whole, without};
-ghost use Rattle.state.specs.Shown.{pool, numbers, Runs, Gapped, Chained};
-ghost use Rattle.chain.specs.Chain.{Enters, Ordered, Placed, Chosen};
+ghost use Rattle.rules.specs.Rules.{top, Range, startOf, any, find, contains, meets, whole};
+ghost use Rattle.state.specs.Shown.{pool, numbers, Runs, Gapped};
+ghost use Rattle.state.specs.Lent.{was};
+ghost use Rattle.chain.specs.Chain.{Ordered, Placed, Chosen, Unchained, Enchained};
 ghost use Rattle.links.specs.Hits.{hitOf};
 
 // Record i goes out of the chain.
 pub fn unchain(first: &mut u16, prev: &mut [u16; POOL], next: &mut [u16; POOL], i: RecordIndex)
     requires { ⌜ i .0 < pool ⌝ }
-    ensures { λ _. ⌜ ((c : List Range) → Chained pool c (now (first .entry)) (now (prev .entry)) (now (next .entry)) → has (i .0) (numbers c) ≡ true → Chained pool (without (i .0) c) (now (first .exit)) (now (prev .exit)) (now (next .exit))) ⌝ }
+    ensures { λ _. ⌜ Unchained pool (i .0) first prev next ⌝ }
 {
     let head = RecordIndex(*first);
     let a = link_of(next, i);
@@ -41,7 +42,7 @@ pub fn enchain(
     i: RecordIndex,
     a: RecordIndex,
 )
-    ensures { λ _. ⌜ ((q : Range) (l r : List Range) → q .number ≡ i .0 → Enters pool (now (first .entry)) (now (prev .entry)) (now (next .entry)) (b .0) (a .0) q l r → Chained pool (l ++ q ∷ r) (now (first .exit)) (now (prev .exit)) (now (next .exit))) ⌝ }
+    ensures { λ _. ⌜ Enchained pool (b .0) (i .0) (a .0) first prev next ⌝ }
 {
     let head = RecordIndex(*first);
     *first = choose(b, RecordIndex(NONE), i, head).0;
@@ -56,7 +57,7 @@ pub fn search_entry_previous_address(
     address: Address,
 ) -> Gap
     requires { ⌜ ((c : List Range) × (end : List ℕ) × Runs pool c (now start) end (now next) × (first .0 ≡ head (numbers c))) ⌝ }
-    ensures { λ g. ⌜ ((c : List Range) (end : List ℕ) → Runs pool c (now (start .entry)) end (now (next .entry)) → first .0 ≡ head (numbers c) → Gapped startOf c (address .0) (g .before .0) (g .after .0)) ⌝ }
+    ensures { λ g. ⌜ ((c : List Range) (end : List ℕ) → Runs pool c (was start) end (was next) → first .0 ≡ head (numbers c) → Gapped startOf c (address .0) (g .before .0) (g .after .0)) ⌝ }
 {
     let mut before = RecordIndex(NONE);
     let mut cur = first;
@@ -88,7 +89,7 @@ pub fn search_entry_containing_address(
 ) -> Hit
     requires { ⌜ ((c : List Range) × Ordered pool c (now start) (now end) (now next) (first .0)) ⌝ }
     requires { ⌜ (address .0 < past .0) × (past .0 ≤ top) ⌝ }
-    ensures { λ k. ⌜ ((c : List Range) → Ordered pool c (now (start .entry)) (now (end .entry)) (now (next .entry)) (first .0) → k ≡ hitOf (find (contains (address .0) (past .0)) c)) ⌝ }
+    ensures { λ k. ⌜ ((c : List Range) → Ordered pool c (was start) (was end) (was next) (first .0) → k ≡ hitOf (find (contains (address .0) (past .0)) c)) ⌝ }
 {
     let gap = search_entry_previous_address(start, next, first, Address(address.0 + 1));
     let i = gap.before;
@@ -104,7 +105,7 @@ pub fn search_entry_containing_address(
 
 // Whether record i has a range whose last byte is at the address or past it.
 pub fn reaches(end: &[u64; POOL], i: RecordIndex, address: Address) -> bool
-    ensures { λ k. ⌜ k ≡ (ltb (i .0) pool && leb (address .0) (getD (now (end .entry)) (i .0) 0)) ⌝ }
+    ensures { λ k. ⌜ k ≡ (ltb (i .0) pool && leb (address .0) (getD (was end) (i .0) 0)) ⌝ }
 {
     let n = i.0 as usize;
     if POOL <= n {
@@ -115,7 +116,7 @@ pub fn reaches(end: &[u64; POOL], i: RecordIndex, address: Address) -> bool
 
 // Whether record i has a range that starts below the address.
 pub fn starts_below(start: &[u64; POOL], i: RecordIndex, address: Address) -> bool
-    ensures { λ k. ⌜ k ≡ (ltb (i .0) pool && ltb (getD (now (start .entry)) (i .0) 0) (address .0)) ⌝ }
+    ensures { λ k. ⌜ k ≡ (ltb (i .0) pool && ltb (getD (was start) (i .0) 0) (address .0)) ⌝ }
 {
     let n = i.0 as usize;
     if POOL <= n {
@@ -134,7 +135,7 @@ pub fn overlaps_neighbour(
     past: Address,
 ) -> bool
     requires { ⌜ address .0 < past .0 ⌝ }
-    ensures { λ k. ⌜ ((c : List Range) → Placed pool c (now (start .entry)) (now (end .entry)) (before .0) (after .0) (address .0) → k ≡ any (meets (address .0) (past .0)) c) ⌝ }
+    ensures { λ k. ⌜ ((c : List Range) → Placed pool c (was start) (was end) (before .0) (after .0) (address .0) → k ≡ any (meets (address .0) (past .0)) c) ⌝ }
 {
     if reaches(end, before, address) {
         return true;
@@ -154,7 +155,7 @@ pub fn is_whole_chain(
 ) -> bool
     requires { ⌜ ((c : List Range) × (r : Range) × Chosen pool c (now start) (now end) (now next) (first .0) (i .0) r) ⌝ }
     requires { ⌜ address .0 < past .0 ⌝ }
-    ensures { λ k. ⌜ ((c : List Range) (r : Range) → Chosen pool c (now (start .entry)) (now (end .entry)) (now (next .entry)) (first .0) (i .0) r → k ≡ (whole (address .0) (past .0) r && eqb (length c) 1)) ⌝ }
+    ensures { λ k. ⌜ ((c : List Range) (r : Range) → Chosen pool c (was start) (was end) (was next) (first .0) (i .0) r → k ≡ (whole (address .0) (past .0) r && eqb (length c) 1)) ⌝ }
 {
     let n = i.0 as usize;
     if start[n] != address.0 {

@@ -1,9 +1,9 @@
 // The allocator lent in place: each door calls the core, which takes it by value.
-use answers::Answer;
-use state::Address;
-use state::MemoryAllocator;
+use memory_allocator::Address;
+use memory_allocator::Answer;
+use memory_allocator::MemoryAllocator;
 ghost use mathlib.Core.Path.{_≡_};
-ghost use Rattle.state.specs.Shown.{pool};
+ghost use Rattle.memory_allocator.specs.Names.{pool};
 ghost use Rattle.memory_allocator.specs.Promises.{allocateOf, reserveOf, freeOf};
 
 // `size` bytes from a multiple of 2^order.

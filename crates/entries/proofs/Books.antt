@@ -1,19 +1,18 @@
 -- Steps of a book, and what the arrays show after each.
-use Prim.Native.Nat.{ℕ, _+_, _-_, _<_, _≤_}
+use Prim.Native.Nat.{ℕ, _<_, _≤_}
 use mathlib.Core.Bool.{Bool, true, false}
 use mathlib.Core.Logic.{_≢_, _⊎_, inl, inr, ⊎-elim}
 use mathlib.Core.List.{List, [], _∷_, _++_}
 use mathlib.Core.Path.{_≡_, refl, sym, ap, _∙_, subst}
 use lib.ListN.{set, length-set}
 use lib.Seq.{getD-set-same, getD-set-other}
-use lib.Dec.{leb}
 use native.Mathlib.Omega.{arith}
 use borrow.Author.Tests.{eq-eqb, ne-eqb}
 use Rattle.lists.specs.Links.{none, head, has}
 use Rattle.lists.proofs.Laws.{same?}
-use Rattle.rules.specs.Rules.{Range, range, startOf, size, Book, sum, total, before, without, put, remove}
+use Rattle.rules.specs.Rules.{Range, range, startOf, size, Book, before, without, put, remove}
 use Rattle.rules.specs.Sound.{In, Pairwise}
-use Rattle.laws.proofs.Lists.{if, in-before→, in-before←, in-without→, in-without←}
+use Rattle.laws.proofs.Lists.{in-before→, in-before←, in-without→, in-without←}
 use Rattle.rules.specs.Sound.{Sound, Other, Ahead}
 use Rattle.laws.proofs.Kept.{put-sound, remove-sound, in-remove→, others-apart}
 use Rattle.state.specs.Shown.{numbers, at, Stops, Shelved, Chained, Marked, Shape}
@@ -43,30 +42,6 @@ without-part [] r u h = rw (eq-eqb (r .number) (r .number) refl) (without-fresh 
 without-part (q ∷ l) r u h =
     rw (ne-eqb (r .number) (q .number) (λ e. h .0 r (in-right r l (r ∷ u) (inl refl)) (sym e)))
     (ap (λ (k : List Range). q ∷ k) (without-part l r u (h .1)))
-
--- ---- totals
-
-pub sum-before : (key : Range → ℕ) (q : Range) (c : List Range) → sum (before key q c) ≡ size q + sum c
-unfolding sum before
-sum-before key q [] = refl
-sum-before key q (p ∷ c) = if (leb (key q) (key p)) (λ m. sum m ≡ size q + (size p + sum c)) (λ t. refl) (λ t. let e = sum-before key q c in omega arith)
-
-pub sum-part : (l : List Range) (r : Range) (u : List Range) → sum (l ++ r ∷ u) ≡ size r + sum (l ++ u)
-unfolding sum
-sum-part [] r u = refl
-sum-part (q ∷ l) r u = let e = sum-part l r u in omega arith
-
-pub total-put : (q : Range) (b : Book) → total (put q b) ≡ size q + total b
-unfolding put
-total-put q b = sum-before startOf q (b .chain)
-
-pub total-remove : (n : ℕ) (r : Range) (b : Book) → Sound n b → In r (b .chain) → total b ≡ size r + total (remove r b)
-unfolding remove
-total-remove n r b s m =
-    let w = part r (b .chain) m in
-    let e = w .2 in
-    let o : Pairwise Other (w .0 ++ r ∷ w .1) = rw e at (s .once) in
-    ap sum e ∙ sum-part (w .0) r (w .1) ∙ ap (λ (k : List Range). size r + sum k) (sym (ap (without (r .number)) e ∙ without-part (w .0) r (w .1) o))
 
 -- ---- what depends on the numbers alone
 

@@ -5,10 +5,12 @@ use mathlib.Core.List.{List}
 use mathlib.Core.Path.{_≡_}
 use lib.Dec.{ltb}
 use Rattle.lists.specs.Links.{pick}
-use Rattle.rules.specs.Rules.{Range, startOf, Book}
+use denote.Ref.{RefT, now}
+use Rattle.rules.specs.Rules.{Range, startOf, Book, remove, put}
 use Rattle.rules.specs.Sound.{In, Good, Other, Ahead, Apart}
 use Rattle.state.specs.Shown.{Gapped, Shape}
 use Rattle.state.specs.State.{Holds}
+use Rattle.state.specs.Lent.{Lent, was, is}
 use Rattle.state.specs.declared.MemoryAllocator.{MemoryAllocator}
 use Rattle.entries.specs.declared.Slot.{Slot}
 use Rattle.entries.specs.declared.Slot.the-variants.{At, Full}
@@ -40,7 +42,34 @@ pub record Drops (n : ℕ) (b : Book) (first : ℕ) (heads start end : List ℕ)
   pub member : In r (b .chain)
   pub number : i ≡ r .number
 
--- how a step ends, by whether it wants a record and there is none
+-- ---- the nine fields beside the total, lent one by one: first, heads, start, end, enabled, previous, next, lprev, lnext
+
+abbrev pub OfNine : (Type 0 → Type 0) → Type 1 → Type 1
+OfNine F T = F ℕ → F (List ℕ) → F (List ℕ) → F (List ℕ) → F (List Bool) → F (List ℕ) → F (List ℕ) → F (List ℕ) → F (List ℕ) → T
+
+-- the range of record i may go out of some book, and it has gone out of every such book
+abbrev pub DropsSome : ℕ → OfNine RefT (ℕ → Type 0)
+DropsSome n first heads start end enabled previous next lprev lnext i =
+    (b : Book) × (r : Range) × Drops n b (now first) (now heads) (now start) (now end) (now enabled) (now previous) (now next) (now lprev) (now lnext) i r
+
+abbrev pub Dropped : ℕ → OfNine Lent (ℕ → Type 0)
+Dropped n first heads start end enabled previous next lprev lnext i =
+    (b : Book) (r : Range) → Drops n b (was first) (was heads) (was start) (was end) (was enabled) (was previous) (was next) (was lprev) (was lnext) i r
+    → Shape n (remove r b) (is first) (is heads) (is start) (is end) (is enabled) (is previous) (is next) (is lprev) (is lnext)
+
+-- q may go into some book, between the records x and y of the chain, and it has gone into every such book
+abbrev pub InsertsSome : ℕ → OfNine RefT (ℕ → ℕ → Range → Type 0)
+InsertsSome n first heads start end enabled previous next lprev lnext x y q =
+    (b : Book) × Inserts n b (now first) (now heads) (now start) (now end) (now enabled) (now previous) (now next) (now lprev) (now lnext) x y q
+
+abbrev pub Inserted : ℕ → OfNine Lent (ℕ → ℕ → Range → Type 0)
+Inserted n first heads start end enabled previous next lprev lnext x y q =
+    (b : Book) → Inserts n b (was first) (was heads) (was start) (was end) (was enabled) (was previous) (was next) (was lprev) (was lnext) x y q
+    → Shape n (put q b) (is first) (is heads) (is start) (is end) (is enabled) (is previous) (is next) (is lprev) (is lnext)
+
+-- ---- how a step ends
+
+-- by whether it wants a record and there is none
 abbrev pub movingOf : Bool → Moving
 movingOf true = NoRecord
 movingOf false = Done

@@ -9,9 +9,10 @@ use state::POOL;
 use state::RecordIndex;
 ghost use mathlib.Core.Path.{_≡_};
 ghost use mathlib.Core.List.{List};
-ghost use Rattle.rules.specs.Rules.{Range, range, lowest, Book, remove, put};
-ghost use Rattle.state.specs.Shown.{pool, Marked, Shape};
-ghost use Rattle.entries.specs.Entries.{slotOf, Drops, Inserts};
+ghost use Rattle.rules.specs.Rules.{Range, range, lowest};
+ghost use Rattle.state.specs.Shown.{pool, Marked};
+ghost use Rattle.state.specs.Lent.{was};
+ghost use Rattle.entries.specs.Entries.{slotOf, DropsSome, Dropped, InsertsSome, Inserted};
 
 pub enum Slot {
     At(RecordIndex),
@@ -27,7 +28,7 @@ pub enum Moving {
 // The lowest unused record.
 pub fn create_memory_entry(enabled: &[bool; POOL]) -> Slot
     requires { ⌜ ((c : List Range) × Marked pool c (now enabled)) ⌝ }
-    ensures { λ r. ⌜ ((c : List Range) → Marked pool c (now (enabled .entry)) → r ≡ slotOf pool (lowest pool 0 c)) ⌝ }
+    ensures { λ r. ⌜ ((c : List Range) → Marked pool c (was enabled) → r ≡ slotOf pool (lowest pool 0 c)) ⌝ }
 {
     let mut i: usize = 0;
     while i < POOL {
@@ -52,8 +53,8 @@ pub fn delete_entry(
     lnext: &mut [u16; POOL],
     i: RecordIndex,
 )
-    requires { ⌜ ((b : Book) × (r : Range) × Drops pool b (now first) (now heads) (now start) (now end) (now enabled) (now previous) (now next) (now lprev) (now lnext) (i .0) r) ⌝ }
-    ensures { λ _. ⌜ ((b : Book) (r : Range) → Drops pool b (now (first .entry)) (now (heads .entry)) (now (start .entry)) (now (end .entry)) (now (enabled .entry)) (now (previous .entry)) (now (next .entry)) (now (lprev .entry)) (now (lnext .entry)) (i .0) r → Shape pool (remove r b) (now (first .exit)) (now (heads .exit)) (now (start .exit)) (now (end .exit)) (now (enabled .exit)) (now (previous .exit)) (now (next .exit)) (now (lprev .exit)) (now (lnext .exit))) ⌝ }
+    requires { ⌜ DropsSome pool first heads start end enabled previous next lprev lnext (i .0) ⌝ }
+    ensures { λ _. ⌜ Dropped pool first heads start end enabled previous next lprev lnext (i .0) ⌝ }
 {
     unchain_entry_from_free_list(start, end, lprev, lnext, heads, i);
     unchain(first, previous, next, i);
@@ -80,8 +81,8 @@ pub fn insert(
     s: Address,
     e: Address,
 )
-    requires { ⌜ ((b : Book) × Inserts pool b (now first) (now heads) (now start) (now end) (now enabled) (now previous) (now next) (now lprev) (now lnext) (x .0) (y .0) (range (j .0) (s .0) (e .0))) ⌝ }
-    ensures { λ _. ⌜ ((b : Book) → Inserts pool b (now (first .entry)) (now (heads .entry)) (now (start .entry)) (now (end .entry)) (now (enabled .entry)) (now (previous .entry)) (now (next .entry)) (now (lprev .entry)) (now (lnext .entry)) (x .0) (y .0) (range (j .0) (s .0) (e .0)) → Shape pool (put (range (j .0) (s .0) (e .0)) b) (now (first .exit)) (now (heads .exit)) (now (start .exit)) (now (end .exit)) (now (enabled .exit)) (now (previous .exit)) (now (next .exit)) (now (lprev .exit)) (now (lnext .exit))) ⌝ }
+    requires { ⌜ InsertsSome pool first heads start end enabled previous next lprev lnext (x .0) (y .0) (range (j .0) (s .0) (e .0)) ⌝ }
+    ensures { λ _. ⌜ Inserted pool first heads start end enabled previous next lprev lnext (x .0) (y .0) (range (j .0) (s .0) (e .0)) ⌝ }
 {
     enchain(first, previous, next, x, j, y);
     let m = j.0 as usize;

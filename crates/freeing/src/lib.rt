@@ -1,5 +1,5 @@
 // `free`, in place.
-use answers::Answer;
+use calls::Answer;
 use chain::overlaps_neighbour;
 use chain::search_entry_previous_address;
 use entries::Moving;
@@ -9,14 +9,15 @@ use state::LISTS;
 use state::POOL;
 use state::RecordIndex;
 use state::TOP;
-ghost use Prim.Native.Nat.{_+_, _<_};
-ghost use Rattle.rules.specs.Rules.{Book, free};
+ghost use Prim.Native.Nat.{_+_, _<_, _≤_};
+ghost use Rattle.rules.specs.Rules.{top, free};
 ghost use Rattle.state.specs.Shown.{pool};
-ghost use Rattle.state.specs.State.{arrays, Holds};
-ghost use Rattle.answers.specs.Answers.{Answers};
+ghost use Rattle.state.specs.Lent.{HoldsSome};
+ghost use Rattle.calls.specs.Answers.{Follows};
+ghost use Rattle.freeing.specs.Free.{freeFrom};
 
-// A piece becomes free.
-pub fn free_in(
+// The bytes from `address` to before `past` become free, if none of them is.
+fn free_piece(
     total: &mut u64,
     first: &mut u16,
     heads: &mut [u16; LISTS],
@@ -28,21 +29,12 @@ pub fn free_in(
     lprev: &mut [u16; POOL],
     lnext: &mut [u16; POOL],
     address: Address,
-    size: u64,
+    past: Address,
 ) -> Answer
-    requires { ⌜ ((b : Book) × Holds pool b (arrays (now total) (now first) (now heads) (now start) (now end) (now enabled) (now previous) (now next) (now lprev) (now lnext))) ⌝ }
-    ensures { λ k. ⌜ ((b : Book) → Holds pool b (arrays (now (total .entry)) (now (first .entry)) (now (heads .entry)) (now (start .entry)) (now (end .entry)) (now (enabled .entry)) (now (previous .entry)) (now (next .entry)) (now (lprev .entry)) (now (lnext .entry))) → Answers pool (free pool (address .0) size b) k (arrays (now (total .exit)) (now (first .exit)) (now (heads .exit)) (now (start .exit)) (now (end .exit)) (now (enabled .exit)) (now (previous .exit)) (now (next .exit)) (now (lprev .exit)) (now (lnext .exit)))) ⌝ }
+    requires { ⌜ HoldsSome pool total first heads start end enabled previous next lprev lnext ⌝ }
+    requires { ⌜ (address .0 < past .0) × (past .0 ≤ top) ⌝ }
+    ensures { λ k. ⌜ Follows pool (freeFrom pool (address .0) (past .0)) k total first heads start end enabled previous next lprev lnext ⌝ }
 {
-    if size == 0 {
-        return Answer::InvalidRequest;
-    }
-    if TOP < address.0 {
-        return Answer::InvalidRequest;
-    }
-    if TOP - address.0 < size {
-        return Answer::InvalidRequest;
-    }
-    let past = Address(address.0 + size);
     let gap = search_entry_previous_address(start, next, RecordIndex(*first), address);
     let before = gap.before;
     let after = gap.after;
@@ -69,4 +61,47 @@ pub fn free_in(
         Moving::Done => Answer::Accepted(Address(0)),
         Moving::NoRecord => Answer::NoEntry,
     }
+}
+
+// Document 01's lines for a free, one after the other; what passes them is served.
+pub fn free_in(
+    total: &mut u64,
+    first: &mut u16,
+    heads: &mut [u16; LISTS],
+    start: &mut [u64; POOL],
+    end: &mut [u64; POOL],
+    enabled: &mut [bool; POOL],
+    previous: &mut [u16; POOL],
+    next: &mut [u16; POOL],
+    lprev: &mut [u16; POOL],
+    lnext: &mut [u16; POOL],
+    address: Address,
+    size: u64,
+) -> Answer
+    requires { ⌜ HoldsSome pool total first heads start end enabled previous next lprev lnext ⌝ }
+    ensures { λ k. ⌜ Follows pool (free pool (address .0) size) k total first heads start end enabled previous next lprev lnext ⌝ }
+{
+    if size == 0 {
+        return Answer::InvalidRequest;
+    }
+    if TOP < address.0 {
+        return Answer::InvalidRequest;
+    }
+    if TOP - address.0 < size {
+        return Answer::InvalidRequest;
+    }
+    free_piece(
+        total,
+        first,
+        heads,
+        start,
+        end,
+        enabled,
+        previous,
+        next,
+        lprev,
+        lnext,
+        address,
+        Address(address.0 + size),
+    )
 }

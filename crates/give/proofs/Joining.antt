@@ -15,11 +15,11 @@ use Rattle.rules.specs.Rules.{top, Range, range, size, Book, sum, total, withou
 use Rattle.rules.specs.Sound.{In, Pairwise, Good, Ahead, Other}
 use Rattle.laws.proofs.Lists.{find-one, find-none, compared}
 use Rattle.laws.proofs.Kept.{others-apart, unused-other, same-number, remove-sound, in-remove→, in-remove←}
+use Rattle.laws.proofs.Sums.{sum-append, sum-between, total-put, total-remove}
 use Rattle.state.specs.Shown.{at, Shape}
 use Rattle.state.specs.State.{arrays}
 use Rattle.entries.specs.Entries.{Replaces, Inserts, Drops}
 use Rattle.entries.specs.declared.Moving.the-variants.{Done, NoRecord}
-use Rattle.entries.proofs.Books.{total-put, total-remove}
 use Rattle.entries.proofs.Moves.{done, refused}
 use Rattle.chain.proofs.Neighbours.{pair-left, pair-right, high-starts, Below, below, none-below, Above, above, none-above}
 use Rattle.state.proofs.Walks.{in-left, in-right}
@@ -80,20 +80,6 @@ both-total tot z w rest s l a t q e f g h i = omega arith
 
 alone-total : (tot rest a t : ℕ) → tot ≡ rest → a < t → tot + (t - a) ≡ suc (t - 1) - a + rest
 alone-total tot rest a t e h = omega arith
-
-sum-append : (l m : List Range) → sum (l ++ m) ≡ sum l + sum m
-unfolding sum
-sum-append [] m = omega arith
-sum-append (q ∷ l) m = let e = sum-append l m in omega arith
-
--- ranges one after the other, between two addresses, have no more bytes than lie between
-sum-between : (lo hi : ℕ) (l : List Range) → Pairwise Ahead l → lo ≤ hi → ((q : Range) → In q l → (lo ≤ q .start) × (q .start ≤ q .last) × (suc (q .last) ≤ hi)) → sum l + lo ≤ hi
-unfolding sum
-sum-between lo hi [] p h f = omega arith
-sum-between lo hi (r ∷ l) p h f =
-    let w = f r (inl refl) in
-    let i = sum-between (suc (r .last)) hi l (p .1) (w .2) (λ q m. let v = f q (inr m) in (let a = p .0 q m in omega arith, v .1, v .2)) in
-    omega arith
 
 -- ---- the neighbours
 

@@ -6,6 +6,7 @@ use Rattle.rules.specs.Rules.{top, Range, startOf, Book, lower, upper, alone, f
 use Rattle.rules.specs.Sound.{In}
 use Rattle.state.specs.Shown.{Gapped}
 use Rattle.state.specs.State.{Holds}
+use Rattle.state.specs.Lent.{OfFields, fields, OfLent, turns}
 use Rattle.state.specs.declared.MemoryAllocator.{MemoryAllocator}
 use Rattle.entries.specs.Entries.{Leaves}
 use Rattle.entries.specs.declared.Moving.{Moving}
@@ -24,3 +25,10 @@ wants n b a t = alone (lower a b) (upper t b) && full n b
 
 abbrev pub Joins : ℕ → Book → ℕ → ℕ → Moving → MemoryAllocator → Type 0
 Joins n b a t k s = Leaves n (wants n b a t) b (given n a t b) k s
+
+-- the bytes lie there in some book, and to every such book they have been given
+abbrev pub OffersSome : ℕ → ℕ → ℕ → ℕ → ℕ → OfFields
+OffersSome n x y a t = fields (λ s. (b : Book) × Offers n b s x y a t)
+
+abbrev pub Given : ℕ → ℕ → ℕ → ℕ → ℕ → Moving → OfLent
+Given n x y a t k = turns (λ s s′. (b : Book) → Offers n b s x y a t → Joins n b a t k s′)

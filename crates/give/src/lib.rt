@@ -14,14 +14,13 @@ ghost use mathlib.Core.Bool.{_&&_};
 ghost use Prim.Native.Nat.{suc};
 ghost use lib.Dec.{eqb, ltb};
 ghost use lib.ListN.{getD};
-ghost use Rattle.rules.specs.Rules.{Book};
 ghost use Rattle.state.specs.Shown.{pool};
-ghost use Rattle.state.specs.State.{arrays};
-ghost use Rattle.give.specs.Give.{Offers, Joins};
+ghost use Rattle.state.specs.Lent.{was};
+ghost use Rattle.give.specs.Give.{OffersSome, Given};
 
 // Whether record i has a range that ends right before the address.
 pub fn ends_before(end: &[u64; POOL], i: RecordIndex, address: Address) -> bool
-    ensures { λ r. ⌜ r ≡ (ltb (i .0) pool && eqb (suc (getD (now (end .entry)) (i .0) 0)) (address .0)) ⌝ }
+    ensures { λ r. ⌜ r ≡ (ltb (i .0) pool && eqb (suc (getD (was end) (i .0) 0)) (address .0)) ⌝ }
 {
     let n = i.0 as usize;
     if POOL <= n {
@@ -35,7 +34,7 @@ pub fn ends_before(end: &[u64; POOL], i: RecordIndex, address: Address) -> bool
 
 // Whether record i has a range that starts at the address.
 pub fn starts_at(start: &[u64; POOL], i: RecordIndex, address: Address) -> bool
-    ensures { λ r. ⌜ r ≡ (ltb (i .0) pool && eqb (getD (now (start .entry)) (i .0) 0) (address .0)) ⌝ }
+    ensures { λ r. ⌜ r ≡ (ltb (i .0) pool && eqb (getD (was start) (i .0) 0) (address .0)) ⌝ }
 {
     let n = i.0 as usize;
     if POOL <= n {
@@ -61,8 +60,8 @@ pub fn define_free_memory(
     a: Address,
     t: Address,
 ) -> Moving
-    requires { ⌜ ((b : Book) × Offers pool b (arrays (now total) (now first) (now heads) (now start) (now end) (now enabled) (now previous) (now next) (now lprev) (now lnext)) (x .0) (y .0) (a .0) (t .0)) ⌝ }
-    ensures { λ k. ⌜ ((b : Book) → Offers pool b (arrays (now (total .entry)) (now (first .entry)) (now (heads .entry)) (now (start .entry)) (now (end .entry)) (now (enabled .entry)) (now (previous .entry)) (now (next .entry)) (now (lprev .entry)) (now (lnext .entry))) (x .0) (y .0) (a .0) (t .0) → Joins pool b (a .0) (t .0) k (arrays (now (total .exit)) (now (first .exit)) (now (heads .exit)) (now (start .exit)) (now (end .exit)) (now (enabled .exit)) (now (previous .exit)) (now (next .exit)) (now (lprev .exit)) (now (lnext .exit)))) ⌝ }
+    requires { ⌜ OffersSome pool (x .0) (y .0) (a .0) (t .0) total first heads start end enabled previous next lprev lnext ⌝ }
+    ensures { λ k. ⌜ Given pool (x .0) (y .0) (a .0) (t .0) k total first heads start end enabled previous next lprev lnext ⌝ }
 {
     let more = *total + (t.0 - a.0);
     let high = starts_at(start, y, t);

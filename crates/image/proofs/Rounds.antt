@@ -16,7 +16,7 @@ use Rattle.soundness.specs.Paragraph.{Sized}
 use Rattle.soundness.proofs.Exact.{sound-passes, passes-sound}
 use Rattle.bytes_be.specs.Numbers.{Bytes}
 use Rattle.image_parts.specs.Layout.{Layout, imageSize}
-use Rattle.image.specs.Writing.{imageOf, numberOf, written, writingOf}
+use Rattle.image.specs.Writing.{imageOf, Image, numberOf, written, writingOf}
 use Rattle.image_parts.specs.Read.{numbersIn, linksIn, flagsIn}
 use Rattle.image.specs.Reading.{framed, stateIn, Handed, accepted, refused, readingOf}
 use Rattle.image.specs.declared.ImageAnswer.the-variants.{Done, InvalidEntry}
@@ -24,12 +24,6 @@ use Rattle.image.proofs.Ways.{both, framed-frame, frame-framed, read-do
 use Rattle.image.proofs.Fitting.{Lawful, Fits, sound-fits}
 use Rattle.image.proofs.ReadBack.{state-back, frame-back}
 use Rattle.image.proofs.WriteBack.{image-again}
-
--- l is the image of a sound state
-pub record Image (f : Layout) (l : List ℕ) : Type 0 where
-  pub state : MemoryAllocator
-  pub sound : SoundState (f .records) state
-  pub bytes : imageOf f state ≡ l
 
 state-sized : (f : Layout) (l : List ℕ) → Sized (f .records) (stateIn f l)
 unfolding stateIn numbersIn linksIn flagsIn

@@ -2,11 +2,14 @@
 use Prim.Native.Nat.{ℕ}
 use mathlib.Core.Bool.{Bool, false, cond, _&&_}
 use mathlib.Core.List.{List, _++_}
+use mathlib.Core.Path.{_≡_}
 use lib.Dec.{eqb}
-use lib.ListN.{length, getD}
+use lib.ListN.{length, getD, take}
+use Rattle.state.specs.Lent.{Lent, was, is}
+use Rattle.state.specs.Sound.{SoundState}
 use Rattle.state.specs.declared.MemoryAllocator.{MemoryAllocator}
 use Rattle.sound.specs.IsSound.{isSound}
-use Rattle.image_parts.specs.Layout.{Layout, imageSize}
+use Rattle.image_parts.specs.Layout.{Layout, recordsAt, imageSize}
 use Rattle.image_parts.specs.Written.{joined, recordBytes, headBytes}
 use Rattle.image_parts.specs.declared.records.MemoryEntry.{MemoryEntry}
 use Rattle.image.specs.declared.ImageAnswer.{ImageAnswer}
@@ -27,9 +30,21 @@ entryOf start end enabled previous next lprev lnext i = record {
 abbrev pub entryAt : MemoryAllocator → ℕ → MemoryEntry
 entryAt s = entryOf (s .start) (s .end) (s .enabled) (s .previous) (s .next) (s .«list_prev») (s .«list_next»)
 
+-- the first n records of the lent arrays stand in the image, and its head is as it was
+abbrev pub WritesRecords : Layout → ℕ → Lent (List ℕ) → Lent (List ℕ) → Lent (List ℕ) → Lent (List Bool) → Lent (List ℕ) → Lent (List ℕ) → Lent (List ℕ) → Lent (List ℕ) → Type 0
+WritesRecords f n image start end enabled previous next lprev lnext =
+    is image ≡ take (recordsAt f) (was image)
+    ++ joined n 0 (λ i. recordBytes f (entryOf (was start) (was end) (was enabled) (was previous) (was next) (was lprev) (was lnext) i))
+
 -- the image of a state
 unfoldable pub imageOf : Layout → MemoryAllocator → List ℕ
 imageOf f s = headBytes f (s .«free_size») (s .«first_entry» .0) (s .«free_list») ++ joined (f .records) 0 (λ i. recordBytes f (entryAt s i))
+
+-- l is the image of a sound state
+pub record Image (f : Layout) (l : List ℕ) : Type 0 where
+  pub state : MemoryAllocator
+  pub sound : SoundState (f .records) state
+  pub bytes : imageOf f state ≡ l
 
 -- the number of an answer
 abbrev pub numberOf : ImageAnswer → ℕ

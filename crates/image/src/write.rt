@@ -12,12 +12,10 @@ use state::MemoryAllocator;
 use state::POOL;
 use state::RecordIndex;
 ghost use mathlib.Core.Path.{_≡_};
-ghost use mathlib.Core.List.{_++_};
-ghost use lib.ListN.{length, take};
-ghost use Rattle.image_parts.specs.Layout.{current, recordsAt, imageSize};
+ghost use lib.ListN.{length};
+ghost use Rattle.image_parts.specs.Layout.{current, imageSize};
 ghost use Rattle.state.specs.Shown.{pool};
-ghost use Rattle.image_parts.specs.Written.{joined, recordBytes};
-ghost use Rattle.image.specs.Writing.{entryOf, imageOf, written, writingOf};
+ghost use Rattle.image.specs.Writing.{WritesRecords, imageOf, written, writingOf};
 
 // The records, each in its own part of the image.
 fn write_records(
@@ -31,7 +29,7 @@ fn write_records(
     lnext: &[u16; POOL],
 )
     requires { ⌜ length (now image) ≡ imageSize current ⌝ }
-    ensures { λ _. ⌜ now (image .exit) ≡ take (recordsAt current) (now (image .entry)) ++ joined pool 0 (λ i. recordBytes current (entryOf (now (start .entry)) (now (end .entry)) (now (enabled .entry)) (now (previous .entry)) (now (next .entry)) (now (lprev .entry)) (now (lnext .entry)) i)) ⌝ }
+    ensures { λ _. ⌜ WritesRecords current pool image start end enabled previous next lprev lnext ⌝ }
 {
     for i in 0..POOL {
         let e = MemoryEntry {

@@ -1,2 +1,3 @@
--- What the contracts of the searches cite.
+-- What the contracts of the links and of the searches cite.
 pub mod Hits
+pub mod Linking

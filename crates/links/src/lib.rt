@@ -3,14 +3,14 @@ use state::NONE;
 use state::POOL;
 use state::RecordIndex;
 ghost use mathlib.Core.Path.{_≡_};
-ghost use mathlib.Core.Bool.{true};
-ghost use Prim.Native.Nat.{ℕ, _<_};
+ghost use Prim.Native.Nat.{_<_};
 ghost use lib.ListN.{getD};
-ghost use mathlib.Core.List.{List, _++_, _∷_};
 ghost use lib.Dec.{eqb};
-ghost use Rattle.lists.specs.Links.{upd, has, pick};
-ghost use Rattle.lists.specs.Threads.{Sets, Threads, cut, Between};
+ghost use Rattle.lists.specs.Links.{pick};
+ghost use Rattle.lists.specs.Threads.{Sets};
 ghost use Rattle.state.specs.Shown.{pool};
+ghost use Rattle.state.specs.Lent.{was, is};
+ghost use Rattle.links.specs.Linking.{Unlinked, Linked};
 
 // A place in a list: the records on either side of it.
 pub struct Gap {
@@ -26,7 +26,7 @@ pub enum Hit {
 
 // The link of record i is set, where there is such a record.
 pub fn point(links: &mut [u16; POOL], i: RecordIndex, to: RecordIndex)
-    ensures { λ _. ⌜ (Sets pool (now (links .entry)) (i .0) (to .0) (now (links .exit))) ⌝ }
+    ensures { λ _. ⌜ (Sets pool (was links) (i .0) (to .0) (is links)) ⌝ }
 {
     let n = i.0 as usize;
     if n < POOL {
@@ -37,7 +37,7 @@ pub fn point(links: &mut [u16; POOL], i: RecordIndex, to: RecordIndex)
 // The link of record i.
 pub fn link_of(links: &[u16; POOL], i: RecordIndex) -> RecordIndex
     requires { ⌜ i .0 < pool ⌝ }
-    ensures { λ r. ⌜ r .0 ≡ getD (now (links .entry)) (i .0) 0 ⌝ }
+    ensures { λ r. ⌜ r .0 ≡ getD (was links) (i .0) 0 ⌝ }
 {
     let n = i.0 as usize;
     RecordIndex(links[n])
@@ -46,7 +46,7 @@ pub fn link_of(links: &[u16; POOL], i: RecordIndex) -> RecordIndex
 // Record i goes out of its list.
 pub fn unlink(prev: &mut [u16; POOL], next: &mut [u16; POOL], i: RecordIndex)
     requires { ⌜ i .0 < pool ⌝ }
-    ensures { λ _. ⌜ ((key : ℕ → ℕ) (lists : ℕ → List ℕ) → Threads pool key lists (now (prev .entry)) (now (next .entry)) → has (i .0) (lists (key (i .0))) ≡ true → Threads pool key (cut key lists (i .0)) (now (prev .exit)) (now (next .exit))) ⌝ }
+    ensures { λ _. ⌜ Unlinked pool (i .0) prev next ⌝ }
 {
     let b = link_of(prev, i);
     let a = link_of(next, i);
@@ -64,7 +64,7 @@ pub fn link_between(
     i: RecordIndex,
     a: RecordIndex,
 )
-    ensures { λ _. ⌜ ((key : ℕ → ℕ) (lists : ℕ → List ℕ) (l r : List ℕ) → Threads pool key lists (now (prev .entry)) (now (next .entry)) → Between pool key lists (b .0) (i .0) (a .0) l r → Threads pool key (upd lists (key (i .0)) (l ++ i .0 ∷ r)) (now (prev .exit)) (now (next .exit))) ⌝ }
+    ensures { λ _. ⌜ Linked pool (b .0) (i .0) (a .0) prev next ⌝ }
 {
     point(next, b, i);
     point(prev, a, i);

@@ -9,6 +9,7 @@ ghost use Prim.Native.Nat.{ℕ};
 ghost use lib.ListN.{length};
 ghost use Rattle.rules.specs.Rules.{Range};
 ghost use Rattle.state.specs.Shown.{pool};
+ghost use Rattle.state.specs.Lent.{was, is};
 ghost use Rattle.chain.specs.Chain.{Ordered};
 ghost use Rattle.listing.specs.Listing.{Roomy, Wrote, Lists};
 
@@ -21,7 +22,7 @@ pub enum Listed {
 // The number of free ranges.
 pub fn count_entries(next: &[u16; POOL], first: RecordIndex) -> usize
     requires { ⌜ ((c : List Range) × (start : List ℕ) × (end : List ℕ) × Ordered pool c start end (now next) (first .0)) ⌝ }
-    ensures { λ r. ⌜ ((c : List Range) (start end : List ℕ) → Ordered pool c start end (now (next .entry)) (first .0) → r ≡ length c) ⌝ }
+    ensures { λ r. ⌜ ((c : List Range) (start end : List ℕ) → Ordered pool c start end (was next) (first .0) → r ≡ length c) ⌝ }
 {
     let mut count = 0;
     let mut cur = first;
@@ -42,7 +43,7 @@ fn write_entries(
     lasts: &mut [u64],
 )
     requires { ⌜ ((c : List Range) × Roomy pool c (now start) (now end) (now next) (first .0) (now starts) (now lasts)) ⌝ }
-    ensures { λ _. ⌜ ((c : List Range) → Roomy pool c (now (start .entry)) (now (end .entry)) (now (next .entry)) (first .0) (now (starts .entry)) (now (lasts .entry)) → Wrote c (now (starts .entry)) (now (lasts .entry)) (now (starts .exit)) (now (lasts .exit))) ⌝ }
+    ensures { λ _. ⌜ ((c : List Range) → Roomy pool c (was start) (was end) (was next) (first .0) (was starts) (was lasts) → Wrote c (was starts) (was lasts) (is starts) (is lasts)) ⌝ }
 {
     let mut count = 0;
     let mut cur = first;
@@ -65,7 +66,7 @@ pub fn list_in(
     lasts: &mut [u64],
 ) -> Listed
     requires { ⌜ ((c : List Range) × Ordered pool c (now start) (now end) (now next) (first .0)) ⌝ }
-    ensures { λ r. ⌜ ((c : List Range) → Ordered pool c (now (start .entry)) (now (end .entry)) (now (next .entry)) (first .0) → Lists c (now (starts .entry)) (now (lasts .entry)) r (now (starts .exit)) (now (lasts .exit))) ⌝ }
+    ensures { λ r. ⌜ ((c : List Range) → Ordered pool c (was start) (was end) (was next) (first .0) → Lists c (was starts) (was lasts) r (is starts) (is lasts)) ⌝ }
 {
     let count = count_entries(next, first);
     if starts.len() < count {

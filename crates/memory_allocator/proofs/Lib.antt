@@ -1,3 +1,4 @@
--- Laws of the promises; Demand states demand 3 for the by-value calls.
+-- Laws of the promises; Demand has demand 3 of the by-value calls, Refusals what a refusal leaves.
 pub mod Steps
 pub mod Demand
+pub mod Refusals

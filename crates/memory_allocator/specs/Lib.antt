@@ -1,3 +1,4 @@
--- What the allocator promises, and what its lists of calls leave.
+-- What the allocator promises, what is kept of its calls, and what else a client cites.
 pub mod Promises
-pub mod Histories
+pub mod States
+pub mod Names

@@ -1,9 +1,16 @@
-// The allocator: its state goes in by value and comes back by value.
-use requests::Request;
-use serving::Outcome;
-use serving::serve;
-use state::Address;
-use state::MemoryAllocator;
+// The allocator: its state goes in by value and comes back by value. A client takes all from here: the types, the calls, the check of a
+// state, its total and its listing.
+pub use accounts::listing;
+pub use accounts::total;
+pub use calls::Answer;
+pub use calls::Counted;
+pub use calls::Outcome;
+pub use calls::Request;
+pub use serving::serve;
+pub use sound::is_sound;
+pub use state::Address;
+pub use state::MemoryAllocator;
+pub use state::POOL;
 pub use state::new;
 ghost use mathlib.Core.Path.{_≡_};
 ghost use Rattle.state.specs.Shown.{pool};

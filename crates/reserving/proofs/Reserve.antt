@@ -17,7 +17,8 @@ use Rattle.state.specs.declared.MemoryAllocator.{MemoryAllocator}
 use Rattle.links.specs.Hits.{hitOf}
 use Rattle.links.specs.declared.Hit.the-variants.{At, Nothing}
 use Rattle.take.specs.Take.{Asks, refuses}
-use Rattle.answers.proofs.Endings.{hit-at, hit-nothing, chain-ordered}
+use Rattle.links.proofs.Hits.{hit-at, hit-nothing}
+use Rattle.chain.proofs.Held.{chain-ordered}
 
 module _ (n s z o : ℕ) (b : Book) where
   pub reserve-zero : z ≡ 0 → reserve n s z o b ≡ refused 4 b
@@ -35,6 +36,13 @@ module _ (n s z o : ℕ) (b : Book) where
   pub reserve-past : z ≢ 0 → o ≤ 63 → z ≤ total b → top < s + z → reserve n s z o b ≡ refused 4 b
   unfolding reserve refuse
   reserve-past e h g f = rw (ne-eqb z 0 e, le-ltb 63 o h, le-ltb (total b) z g, lt-ltb top (s + z) f)
+
+-- the lines that do not look at the ranges leave a piece of some bytes, not more than there are, below the top
+pub record Passed (s z o total : ℕ) : Type 0 where
+  pub some : z ≢ 0
+  pub order : o ≤ 63
+  pub enough : z ≤ total
+  pub ends : s + z ≤ top
 
 -- with order 0
 pub reserve-plain : (n s z : ℕ) (b : Book) → z ≢ 0 → z ≤ total b → s + z ≤ top → reserve n s z 0 b ≡ reserveFrom n s (s + z) b (find (contains s (s + z)) (b .chain))

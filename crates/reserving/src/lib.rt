@@ -1,6 +1,6 @@
 // `reserve_memory`, in place.
 use align::align_address_and_size;
-use answers::Answer;
+use calls::Answer;
 use chain::is_whole_chain;
 use chain::search_entry_containing_address;
 use entries::Moving;
@@ -13,13 +13,13 @@ use state::RecordIndex;
 use state::TOP;
 use take::define_used_memory;
 ghost use Prim.Native.Nat.{_+_, _<_, _≤_};
-ghost use Rattle.rules.specs.Rules.{top, Book, reserve, reserveFrom, find, contains};
+ghost use Rattle.rules.specs.Rules.{top, reserve, reserveFrom, find, contains};
 ghost use Rattle.state.specs.Shown.{pool};
-ghost use Rattle.state.specs.State.{arrays, Holds};
-ghost use Rattle.answers.specs.Answers.{Answers};
+ghost use Rattle.state.specs.Lent.{HoldsSome};
+ghost use Rattle.calls.specs.Answers.{Follows};
 
 // The bytes from `address` to before `past` are taken, if one range has them all and others remain.
-pub fn reserve_piece(
+fn reserve_piece(
     total: &mut u64,
     first: &mut u16,
     heads: &mut [u16; LISTS],
@@ -33,9 +33,9 @@ pub fn reserve_piece(
     address: Address,
     past: Address,
 ) -> Answer
-    requires { ⌜ ((b : Book) × Holds pool b (arrays (now total) (now first) (now heads) (now start) (now end) (now enabled) (now previous) (now next) (now lprev) (now lnext))) ⌝ }
+    requires { ⌜ HoldsSome pool total first heads start end enabled previous next lprev lnext ⌝ }
     requires { ⌜ (address .0 < past .0) × (past .0 ≤ top) ⌝ }
-    ensures { λ k. ⌜ ((b : Book) → Holds pool b (arrays (now (total .entry)) (now (first .entry)) (now (heads .entry)) (now (start .entry)) (now (end .entry)) (now (enabled .entry)) (now (previous .entry)) (now (next .entry)) (now (lprev .entry)) (now (lnext .entry))) → Answers pool (reserveFrom pool (address .0) (past .0) b (find (contains (address .0) (past .0)) (b .chain))) k (arrays (now (total .exit)) (now (first .exit)) (now (heads .exit)) (now (start .exit)) (now (end .exit)) (now (enabled .exit)) (now (previous .exit)) (now (next .exit)) (now (lprev .exit)) (now (lnext .exit)))) ⌝ }
+    ensures { λ k. ⌜ Follows pool (λ b. reserveFrom pool (address .0) (past .0) b (find (contains (address .0) (past .0)) (b .chain))) k total first heads start end enabled previous next lprev lnext ⌝ }
 {
     let hit = search_entry_containing_address(start, end, next, RecordIndex(*first), address, past);
     let Hit::At(i) = hit else {
@@ -65,7 +65,7 @@ pub fn reserve_piece(
     }
 }
 
-// A piece, widened to multiples of 2^order, is taken.
+// Document 01's lines for a reservation, one after the other; what passes them is widened to multiples of 2^order, and served.
 pub fn reserve_in(
     total: &mut u64,
     first: &mut u16,
@@ -81,8 +81,8 @@ pub fn reserve_in(
     size: u64,
     order: u64,
 ) -> Answer
-    requires { ⌜ ((b : Book) × Holds pool b (arrays (now total) (now first) (now heads) (now start) (now end) (now enabled) (now previous) (now next) (now lprev) (now lnext))) ⌝ }
-    ensures { λ k. ⌜ ((b : Book) → Holds pool b (arrays (now (total .entry)) (now (first .entry)) (now (heads .entry)) (now (start .entry)) (now (end .entry)) (now (enabled .entry)) (now (previous .entry)) (now (next .entry)) (now (lprev .entry)) (now (lnext .entry))) → Answers pool (reserve pool (address .0) size order b) k (arrays (now (total .exit)) (now (first .exit)) (now (heads .exit)) (now (start .exit)) (now (end .exit)) (now (enabled .exit)) (now (previous .exit)) (now (next .exit)) (now (lprev .exit)) (now (lnext .exit)))) ⌝ }
+    requires { ⌜ HoldsSome pool total first heads start end enabled previous next lprev lnext ⌝ }
+    ensures { λ k. ⌜ Follows pool (reserve pool (address .0) size order) k total first heads start end enabled previous next lprev lnext ⌝ }
 {
     if size == 0 {
         return Answer::InvalidRequest;

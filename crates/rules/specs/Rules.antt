@@ -13,7 +13,10 @@ use lib.ListN.{length}
 abbrev pub top : ℕ
 top = 2 ^ 63
 
--- the number of size lists
+-- the number of records, and of size lists
+abbrev pub records : ℕ
+records = 64
+
 abbrev pub sizeLists : ℕ
 sizeLists = 12
 
@@ -223,7 +226,7 @@ free n s z b =
     (refuse (alone (lower s b) (upper (s + z) b) && full n b) 1 b
     (accepted 0 (given n s (s + z) b)))))
 
--- ---- lists of calls
+-- ---- calls, and what is kept of them
 
 pub data Call : Type 0 where
   Free : ℕ → ℕ → Call
@@ -235,11 +238,6 @@ step n (Free s z) b = free n s z b
 step n (Allocate z o) b = allocate n z o b
 step n (Reserve s z o) b = reserve n s z o b
 
--- the book that a list of calls leaves
-unfoldable pub run : ℕ → Book → List Call → Book
-run n b [] = b
-run n b (c ∷ cs) = run n (step n c b .book) cs
-
 -- what is kept of a call and its answer
 pub record Voucher : Type 0 where
   pub call : Call
@@ -248,11 +246,6 @@ pub record Voucher : Type 0 where
 
 abbrev pub voucher : Call → Answer → Voucher
 voucher c w = record { call = c; number = w .number; address = w .address }
-
--- those of a list of calls, oldest first
-unfoldable pub trail : ℕ → Book → List Call → List Voucher
-trail n b [] = []
-trail n b (c ∷ cs) = voucher c (step n c b) ∷ trail n (step n c b .book) cs
 
 abbrev pub frees : Call → Bool
 frees (Free s z) = true

@@ -17,16 +17,17 @@ ghost use Prim.Native.Nat.{ℕ, _<_, _≤_};
 ghost use lib.ListN.{set};
 ghost use mathlib.Core.List.{List};
 ghost use Rattle.lists.specs.Links.{head};
-ghost use Rattle.rules.specs.Rules.{Range, find, fits, range, size, without, before};
+ghost use Rattle.rules.specs.Rules.{Range, find, fits, range, size};
 ghost use Rattle.rules.specs.Sound.{Good};
 ghost use Rattle.state.specs.Shown.{pool, numbers, at, Runs, Gapped, Shelved};
-ghost use Rattle.shelf.specs.Shelf.{Removes, Places, Resizes};
+ghost use Rattle.state.specs.Lent.{was, is};
+ghost use Rattle.shelf.specs.Shelf.{Removes, Places, Resizes, Removed, Placed, Resized};
 ghost use Rattle.links.specs.Hits.{hitOf};
 
 // The number of bytes of record i.
 pub fn get_size(start: &[u64; POOL], end: &[u64; POOL], i: RecordIndex) -> u64
     requires { ⌜ Good pool (at (now start) (now end) (i .0)) ⌝ }
-    ensures { λ r. ⌜ r ≡ size (at (now (start .entry)) (now (end .entry)) (i .0)) ⌝ }
+    ensures { λ r. ⌜ r ≡ size (at (was start) (was end) (i .0)) ⌝ }
 {
     let n = i.0 as usize;
     end[n] - start[n] + 1
@@ -41,7 +42,7 @@ pub fn find_gap(
     s: u64,
 ) -> Gap
     requires { ⌜ ((l : List Range) × Runs pool l (now start) (now end) (now next) × (first .0 ≡ head (numbers l))) ⌝ }
-    ensures { λ r. ⌜ ((l : List Range) → Runs pool l (now (start .entry)) (now (end .entry)) (now (next .entry)) → first .0 ≡ head (numbers l) → Gapped size l s (r .before .0) (r .after .0)) ⌝ }
+    ensures { λ r. ⌜ ((l : List Range) → Runs pool l (was start) (was end) (was next) → first .0 ≡ head (numbers l) → Gapped size l s (r .before .0) (r .after .0)) ⌝ }
 {
     let mut before = RecordIndex(NONE);
     let mut cur = first;
@@ -72,7 +73,7 @@ pub fn unchain_entry_from_free_list(
     i: RecordIndex,
 )
     requires { ⌜ ((l : List Range) × Removes pool (now start) (now end) (now prev) (now next) (now heads) (i .0) l) ⌝ }
-    ensures { λ _. ⌜ ((l : List Range) → Removes pool (now (start .entry)) (now (end .entry)) (now (prev .entry)) (now (next .entry)) (now (heads .entry)) (i .0) l → Shelved pool (without (i .0) l) (now (start .entry)) (now (end .entry)) (now (prev .exit)) (now (next .exit)) (now (heads .exit))) ⌝ }
+    ensures { λ _. ⌜ Removed pool start end prev next heads (i .0) ⌝ }
 {
     let k = size_to_page_order(get_size(start, end, i));
     let kn = k.0 as usize;
@@ -92,7 +93,7 @@ pub fn chain_entry_to_free_list(
     i: RecordIndex,
 )
     requires { ⌜ ((l : List Range) × Places pool (now start) (now end) (now prev) (now next) (now heads) (i .0) l) ⌝ }
-    ensures { λ _. ⌜ ((l : List Range) → Places pool (now (start .entry)) (now (end .entry)) (now (prev .entry)) (now (next .entry)) (now (heads .entry)) (i .0) l → Shelved pool (before size (at (now (start .entry)) (now (end .entry)) (i .0)) l) (now (start .entry)) (now (end .entry)) (now (prev .exit)) (now (next .exit)) (now (heads .exit))) ⌝ }
+    ensures { λ _. ⌜ Placed pool start end prev next heads (i .0) ⌝ }
 {
     let z = get_size(start, end, i);
     let k = size_to_page_order(z);
@@ -117,8 +118,8 @@ pub fn resize(
     e: Address,
 )
     requires { ⌜ ((l : List Range) × Resizes pool (now start) (now end) (now prev) (now next) (now heads) (range (i .0) (s .0) (e .0)) l) ⌝ }
-    ensures { λ _. ⌜ (now (start .exit) ≡ set (now (start .entry)) (i .0) (s .0)) × (now (end .exit) ≡ set (now (end .entry)) (i .0) (e .0)) ⌝ }
-    ensures { λ _. ⌜ ((l : List Range) → Resizes pool (now (start .entry)) (now (end .entry)) (now (prev .entry)) (now (next .entry)) (now (heads .entry)) (range (i .0) (s .0) (e .0)) l → Shelved pool (before size (range (i .0) (s .0) (e .0)) (without (i .0) l)) (now (start .exit)) (now (end .exit)) (now (prev .exit)) (now (next .exit)) (now (heads .exit))) ⌝ }
+    ensures { λ _. ⌜ (is start ≡ set (was start) (i .0) (s .0)) × (is end ≡ set (was end) (i .0) (e .0)) ⌝ }
+    ensures { λ _. ⌜ Resized pool start end prev next heads (range (i .0) (s .0) (e .0)) ⌝ }
 {
     unchain_entry_from_free_list(start, end, prev, next, heads, i);
     let n = i.0 as usize;
@@ -137,7 +138,7 @@ pub fn fits_at(
 ) -> bool
     requires { ⌜ Good pool (at (now start) (now end) (i .0)) ⌝ }
     requires { ⌜ (0 < size) × (order ≤ 63) ⌝ }
-    ensures { λ k. ⌜ k ≡ fits size order (at (now (start .entry)) (now (end .entry)) (i .0)) ⌝ }
+    ensures { λ k. ⌜ k ≡ fits size order (at (was start) (was end) (i .0)) ⌝ }
 {
     let whole = get_size(start, end, i);
     let n = i.0 as usize;
@@ -156,7 +157,7 @@ pub fn find_fit(
 ) -> Hit
     requires { ⌜ ((l : List Range) × (prev : List ℕ) × Shelved pool l (now start) (now end) prev (now next) (now heads)) ⌝ }
     requires { ⌜ (0 < size) × (order ≤ 63) ⌝ }
-    ensures { λ k. ⌜ ((l : List Range) (prev : List ℕ) → Shelved pool l (now (start .entry)) (now (end .entry)) prev (now (next .entry)) (now (heads .entry)) → k ≡ hitOf (find (fits size order) l)) ⌝ }
+    ensures { λ k. ⌜ ((l : List Range) (prev : List ℕ) → Shelved pool l (was start) (was end) prev (was next) (was heads) → k ≡ hitOf (find (fits size order) l)) ⌝ }
 {
     let own = size_to_page_order(size);
     let mut hit = Hit::Nothing;

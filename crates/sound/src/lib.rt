@@ -10,6 +10,7 @@ use state::RecordIndex;
 ghost use mathlib.Core.Path.{_≡_};
 ghost use Rattle.state.specs.Shown.{pool};
 ghost use Rattle.state.specs.State.{arrays};
+ghost use Rattle.state.specs.Lent.{was};
 ghost use Rattle.sound.specs.IsSound.{isSound};
 
 // Whether the state of these arrays is sound.
@@ -25,7 +26,7 @@ pub fn is_sound_in(
     lprev: &[u16; POOL],
     lnext: &[u16; POOL],
 ) -> bool
-    ensures { λ r. ⌜ r ≡ isSound pool (arrays total (first .0) (now (heads .entry)) (now (start .entry)) (now (end .entry)) (now (enabled .entry)) (now (previous .entry)) (now (next .entry)) (now (lprev .entry)) (now (lnext .entry))) ⌝ }
+    ensures { λ r. ⌜ r ≡ isSound pool (arrays total (first .0) (was heads) (was start) (was end) (was enabled) (was previous) (was next) (was lprev) (was lnext)) ⌝ }
 {
     let tally = tally_records(start, end, enabled, previous, next, lprev, lnext);
     let Tally::Of(count) = tally else {

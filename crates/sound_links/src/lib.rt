@@ -13,13 +13,14 @@ ghost use lib.ListN.{getD};
 ghost use Rattle.lists.specs.Links.{none};
 ghost use Rattle.rules.specs.Rules.{sizeLists, top};
 ghost use Rattle.state.specs.Shown.{pool};
+ghost use Rattle.state.specs.Lent.{was};
 ghost use Rattle.sound_records.specs.Records.{Proper};
 ghost use Rattle.sound_links.specs.Walks.{follows, sizeAt, chainStep, chainOk, listStep, listWalk, listsOk};
 
 // The number of bytes of record i.
 fn size_at(start: &[u64; POOL], end: &[u64; POOL], i: RecordIndex) -> u64
     requires { ⌜ (i .0 < pool) × (getD (now start) (i .0) 0 ≤ getD (now end) (i .0) 0) × (getD (now end) (i .0) 0 < top) ⌝ }
-    ensures { λ r. ⌜ r ≡ sizeAt (now (start .entry)) (now (end .entry)) (i .0) ⌝ }
+    ensures { λ r. ⌜ r ≡ sizeAt (was start) (was end) (i .0) ⌝ }
 {
     let n = i.0 as usize;
     end[n] - start[n] + 1
@@ -27,7 +28,7 @@ fn size_at(start: &[u64; POOL], end: &[u64; POOL], i: RecordIndex) -> u64
 
 // Record i is one of the pool, is in use, and its link back is `before`.
 fn follows(enabled: &[bool; POOL], prev: &[u16; POOL], before: RecordIndex, i: RecordIndex) -> bool
-    ensures { λ r. ⌜ r ≡ follows pool (now (enabled .entry)) (now (prev .entry)) (before .0) (i .0) ⌝ }
+    ensures { λ r. ⌜ r ≡ follows pool (was enabled) (was prev) (before .0) (i .0) ⌝ }
 {
     let n = i.0 as usize;
     if n >= POOL {
@@ -48,7 +49,7 @@ fn chain_step(
     low: Address,
     i: RecordIndex,
 ) -> bool
-    ensures { λ r. ⌜ r ≡ chainStep pool (now (start .entry)) (now (enabled .entry)) (now (previous .entry)) (before .0) (low .0) (i .0) ⌝ }
+    ensures { λ r. ⌜ r ≡ chainStep pool (was start) (was enabled) (was previous) (before .0) (low .0) (i .0) ⌝ }
 {
     if !follows(enabled, previous, before, i) {
         return false;
@@ -69,7 +70,7 @@ pub fn chain_ok(
     count: usize,
 ) -> bool
     requires { ⌜ Proper pool (now start) (now end) (now enabled) ⌝ }
-    ensures { λ r. ⌜ r ≡ chainOk pool total (first .0) (now (start .entry)) (now (end .entry)) (now (enabled .entry)) (now (previous .entry)) (now (next .entry)) count ⌝ }
+    ensures { λ r. ⌜ r ≡ chainOk pool total (first .0) (was start) (was end) (was enabled) (was previous) (was next) count ⌝ }
 {
     let mut before = RecordIndex(NONE);
     let mut cur = first;
@@ -108,7 +109,7 @@ fn list_step(
     i: RecordIndex,
 ) -> bool
     requires { ⌜ Proper pool (now start) (now end) (now enabled) ⌝ }
-    ensures { λ r. ⌜ r ≡ listStep pool (now (start .entry)) (now (end .entry)) (now (enabled .entry)) (now (lprev .entry)) (k .0) (before .0) low (i .0) ⌝ }
+    ensures { λ r. ⌜ r ≡ listStep pool (was start) (was end) (was enabled) (was lprev) (k .0) (before .0) low (i .0) ⌝ }
 {
     if !follows(enabled, lprev, before, i) {
         return false;
@@ -132,7 +133,7 @@ fn tally_list(
     head: RecordIndex,
 ) -> Tally
     requires { ⌜ Proper pool (now start) (now end) (now enabled) ⌝ }
-    ensures { λ r. ⌜ r ≡ listWalk pool (now (start .entry)) (now (end .entry)) (now (enabled .entry)) (now (lprev .entry)) (now (lnext .entry)) (k .0) count none 0 (head .0) ⌝ }
+    ensures { λ r. ⌜ r ≡ listWalk pool (was start) (was end) (was enabled) (was lprev) (was lnext) (k .0) count none 0 (head .0) ⌝ }
 {
     let mut before = RecordIndex(NONE);
     let mut cur = head;
@@ -165,7 +166,7 @@ pub fn lists_ok(
     count: usize,
 ) -> bool
     requires { ⌜ Proper pool (now start) (now end) (now enabled) ⌝ }
-    ensures { λ r. ⌜ r ≡ listsOk pool (now (heads .entry)) (now (start .entry)) (now (end .entry)) (now (enabled .entry)) (now (lprev .entry)) (now (lnext .entry)) sizeLists 0 count ⌝ }
+    ensures { λ r. ⌜ r ≡ listsOk pool (was heads) (was start) (was end) (was enabled) (was lprev) (was lnext) sizeLists 0 count ⌝ }
 {
     let mut k: usize = 0;
     let mut left = count;

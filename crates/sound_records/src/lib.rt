@@ -8,6 +8,7 @@ ghost use mathlib.Core.Path.{_≡_};
 ghost use mathlib.Core.Bool.{cond};
 ghost use Prim.Native.Nat.{suc, _<_};
 ghost use Rattle.state.specs.Shown.{pool};
+ghost use Rattle.state.specs.Lent.{was};
 ghost use Rattle.sound_records.specs.Records.{proper, unlinked, recordOk, records};
 
 // A number of records, unless a record or a link is broken.
@@ -80,7 +81,7 @@ pub fn tally_records(
     lprev: &[u16; POOL],
     lnext: &[u16; POOL],
 ) -> Tally
-    ensures { λ r. ⌜ r ≡ records pool (now (start .entry)) (now (end .entry)) (now (enabled .entry)) (now (previous .entry)) (now (next .entry)) (now (lprev .entry)) (now (lnext .entry)) ⌝ }
+    ensures { λ r. ⌜ r ≡ records pool (was start) (was end) (was enabled) (was previous) (was next) (was lprev) (was lnext) ⌝ }
 {
     let mut count: usize = 0;
     let mut i: usize = 0;

@@ -5,22 +5,22 @@ use mathlib.Core.Logic.{_≢_, _⊎_, inl, inr, ⊎-elim}
 use mathlib.Core.List.{List, [], _∷_}
 use mathlib.Core.Option.{Option, none, some}
 use mathlib.Core.Path.{_≡_, refl, sym, ap, _∙_}
-use lib.ListN.{length, getD}
+use lib.ListN.{length, getD, replicate}
 use lib.Seq.{ext-getD}
 use lib.Dec.{eqb, eqb→eq, eqb-refl}
 use native.Mathlib.Omega.{arith}
 use native.Mathlib.Nat.{zero-add}
 use borrow.Author.Tests.{eq-eqb, ne-eqb}
+use Rattle.lists.specs.Links as links
 use Rattle.lists.specs.Links.{before, after, tab, Listed}
-use Rattle.lists.proofs.Laws.{same?, true≢false, length-tab, getD-tab}
-use Rattle.rules.specs.Rules.{Range, range, Book, find, listNumber, ofList}
+use Rattle.lists.proofs.Laws.{same?, true≢false, length-tab, getD-tab, replicate-tab}
+use Rattle.rules.specs.Rules.{sizeLists, Range, range, Book, empty, sum, find, listNumber, ofList}
 use Rattle.rules.specs.Sound.{In, Pairwise}
 use Rattle.laws.proofs.Lists.{Found, found, neq, T-no}
 use Rattle.rules.specs.Sound.{Sound, Other}
 use Rattle.laws.proofs.Kept.{same-number}
 use Rattle.laws.proofs.Shelf.{num, ofList-in, ofList-number, ofList-pairwise}
 use Rattle.state.specs.Shown.{numbers, at, keyAt, Kept}
-use Rattle.rules.specs.Rules.{sizeLists}
 use Rattle.state.specs.State.{arrays, Holds, inRecord, startIn, lastIn, usedIn, listIn, stateOf}
 use Rattle.state.specs.declared.MemoryAllocator.{MemoryAllocator}
 use Rattle.state.proofs.Walks.{has-in, fresh-numbers}
@@ -160,6 +160,23 @@ module _ (n : ℕ) (b : Book) (s : Sound n b) where
     };
   }
 
+-- a range of the book stands in its record
+pub stands-at : (n : ℕ) (b : Book) (s : MemoryAllocator) → Holds n b s → (i : ℕ) (r : Range) → i ≡ r .number → In r (b .chain) → (i < n) × (getD (s .start) i 0 ≡ r .start) × (getD (s .end) i 0 ≡ r .last)
+stands-at n b s h i r e m =
+    let q : at (s .start) (s .end) i ≡ r = rw e (h .shape .kept .stand r m) in
+    (rw e (h .shape .sound .good r m .known), ap (λ (z : Range). z .start) q, ap (λ (z : Range). z .last) q)
+
 -- two states that hold one book are one
 pub same-state : (n : ℕ) (b : Book) (s s′ : MemoryAllocator) → Holds n b s → Holds n b s′ → s ≡ s′
 same-state n b s s′ h h′ = holds-state n b s h ∙ sym (holds-state n b s′ h′)
+
+-- ---- the state of the empty book
+
+pub fresh-state : (n : ℕ) → arrays 0 links.none (replicate sizeLists links.none) (replicate n 0) (replicate n 0) (replicate n false) (replicate n links.none) (replicate n links.none) (replicate n links.none) (replicate n links.none) ≡ stateOf n empty
+unfolding stateOf inRecord find ofList sum
+fresh-state n =
+    let bytes = replicate-tab {A = ℕ} n 0 0 in
+    let used = replicate-tab n 0 false in
+    let linked = replicate-tab n 0 links.none in
+    let heads = replicate-tab sizeLists 0 links.none in
+    (λ z. arrays 0 links.none (heads z) (bytes z) (bytes z) (used z) (linked z) (linked z) (linked z) (linked z))

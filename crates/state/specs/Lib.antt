@@ -2,3 +2,4 @@
 pub mod Shown
 pub mod State
 pub mod Sound
+pub mod Lent

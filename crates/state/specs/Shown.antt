@@ -7,12 +7,12 @@ use mathlib.Core.Path.{_≡_}
 use lib.ListN.{length, getD}
 use Rattle.lists.specs.Links.{none, head, lastFrom, after, Listed}
 use Rattle.lists.specs.Threads.{Threads, alone, only}
-use Rattle.rules.specs.Rules.{sizeLists, Range, range, size, listNumber, ofList, Book}
+use Rattle.rules.specs.Rules.{records, sizeLists, Range, range, size, listNumber, ofList, Book}
 use Rattle.rules.specs.Sound.{In, Pairwise, Sound, Good, Smaller}
 
 -- the number of records
 abbrev pub pool : ℕ
-pool = 64
+pool = records
 
 -- the records of a list of ranges
 abbrev pub numbers : List Range → List ℕ

@@ -15,6 +15,7 @@ use Rattle.rules.specs.Rules.{Range, range, startOf, size, Book, total, before,
 use Rattle.rules.specs.Sound.{In, Pairwise}
 use Rattle.rules.specs.Sound.{Good, Ahead, Apart, Other}
 use Rattle.laws.proofs.Kept.{others-apart, unused-other, in-put→, in-remove→}
+use Rattle.laws.proofs.Sums.{total-put, total-remove}
 use Rattle.state.specs.Shown.{numbers, at, Stops, Gapped, Shelved, Shape}
 use Rattle.shelf.specs.Shelf.{Resizes}
 use Rattle.entries.specs.Entries.{Replaces, Inserts, Drops}
@@ -22,7 +23,7 @@ use Rattle.state.specs.State.{arrays}
 use Rattle.take.specs.Take.{Asks, refuses, Takes}
 use Rattle.entries.specs.declared.Moving.the-variants.{Done, NoRecord}
 use Rattle.state.proofs.Walks.{numbers-append, in-left, in-either}
-use Rattle.entries.proofs.Books.{part, pair-low, pair-high, total-put, total-remove, replace-chain, swap-resizes, swap-shape}
+use Rattle.entries.proofs.Books.{part, pair-low, pair-high, replace-chain, swap-resizes, swap-shape}
 use Rattle.entries.proofs.Moves.{done, refused}
 
 -- ---- totals, without subtraction

@@ -5,6 +5,7 @@ use mathlib.Core.Path.{_≡_}
 use Rattle.rules.specs.Rules.{Range, Book, taken, full, splits}
 use Rattle.rules.specs.Sound.{In}
 use Rattle.state.specs.State.{Holds}
+use Rattle.state.specs.Lent.{OfFields, fields, OfLent, turns}
 use Rattle.state.specs.declared.MemoryAllocator.{MemoryAllocator}
 use Rattle.entries.specs.Entries.{Leaves}
 use Rattle.entries.specs.declared.Moving.{Moving}
@@ -24,3 +25,10 @@ refuses n b r a t = splits a t r && full n b
 
 abbrev pub Takes : ℕ → Book → Range → ℕ → ℕ → Moving → MemoryAllocator → Type 0
 Takes n b r a t k s = Leaves n (refuses n b r a t) b (taken n r a t b) k s
+
+-- some range of some book has the bytes, and out of every such range they have been taken
+abbrev pub AsksSome : ℕ → ℕ → ℕ → ℕ → OfFields
+AsksSome n i a t = fields (λ s. (b : Book) × (r : Range) × Asks n b s i a t r)
+
+abbrev pub Taken : ℕ → ℕ → ℕ → ℕ → Moving → OfLent
+Taken n i a t k = turns (λ s s′. (b : Book) (r : Range) → Asks n b s i a t r → Takes n b r a t k s′)

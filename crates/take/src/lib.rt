@@ -10,10 +10,8 @@ use state::Address;
 use state::LISTS;
 use state::POOL;
 use state::RecordIndex;
-ghost use Rattle.rules.specs.Rules.{Range, Book};
 ghost use Rattle.state.specs.Shown.{pool};
-ghost use Rattle.state.specs.State.{arrays};
-ghost use Rattle.take.specs.Take.{Asks, Takes};
+ghost use Rattle.take.specs.Take.{AsksSome, Taken};
 
 // The bytes from a to before t are taken out of the range in record i; in place.
 pub fn define_used_memory(
@@ -31,8 +29,8 @@ pub fn define_used_memory(
     a: Address,
     t: Address,
 ) -> Moving
-    requires { ⌜ ((b : Book) × (r : Range) × Asks pool b (arrays (now total) (now first) (now heads) (now start) (now end) (now enabled) (now previous) (now next) (now lprev) (now lnext)) (i .0) (a .0) (t .0) r) ⌝ }
-    ensures { λ k. ⌜ ((b : Book) (r : Range) → Asks pool b (arrays (now (total .entry)) (now (first .entry)) (now (heads .entry)) (now (start .entry)) (now (end .entry)) (now (enabled .entry)) (now (previous .entry)) (now (next .entry)) (now (lprev .entry)) (now (lnext .entry))) (i .0) (a .0) (t .0) r → Takes pool b r (a .0) (t .0) k (arrays (now (total .exit)) (now (first .exit)) (now (heads .exit)) (now (start .exit)) (now (end .exit)) (now (enabled .exit)) (now (previous .exit)) (now (next .exit)) (now (lprev .exit)) (now (lnext .exit)))) ⌝ }
+    requires { ⌜ AsksSome pool (i .0) (a .0) (t .0) total first heads start end enabled previous next lprev lnext ⌝ }
+    ensures { λ k. ⌜ Taken pool (i .0) (a .0) (t .0) k total first heads start end enabled previous next lprev lnext ⌝ }
 {
     let n = i.0 as usize;
     let from = start[n];

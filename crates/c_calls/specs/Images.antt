@@ -1,0 +1,32 @@
+-- The C calls over one slice, as an engine: what a call answers and leaves, and what is read off an image, from its bytes and the signed answers alone. Assumes nothing.
+use Prim.Native.Nat.{ℕ}
+use mathlib.Core.List.{List}
+use Rattle.rules.specs.Rules.{Book}
+use Rattle.engine.specs.Engine.{Engine}
+use Rattle.state.specs.Sound.{bookOf}
+use Rattle.calls.specs.Calls.{voucherFrom}
+use Rattle.image_parts.specs.Layout.{Layout, word, totalAt}
+use Rattle.image_parts.specs.Read.{numberIn}
+use Rattle.image.specs.Writing.{Image}
+use Rattle.image.specs.Reading.{readingOf}
+use Rattle.c_calls.specs.CCalls.{callOver, newOver}
+
+-- the book of the state that the image holds
+abbrev pub bookIn : Layout → List ℕ → Book
+bookIn f l = bookOf (f .records) (readingOf f l .state)
+
+-- the stored total
+abbrev pub totalIn : List ℕ → ℕ
+totalIn l = numberIn l totalAt word
+
+-- from what the call that writes the image of `new` leaves of the bytes l
+abbrev pub images : Layout → List ℕ → Engine
+images f l = record {
+  State = List ℕ;
+  new = newOver f l .bytes;
+  answer = λ c m. voucherFrom c (callOver f c m .number);
+  next = λ c m. callOver f c m .bytes;
+  book = bookIn f;
+  total = totalIn;
+  Sound = Image f;
+}

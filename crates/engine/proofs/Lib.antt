@@ -1,0 +1,3 @@
+-- An engine that obeys the rules meets demand 3.
+pub mod Obeys
+pub mod Demand

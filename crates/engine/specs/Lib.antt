@@ -1,0 +1,3 @@
+-- What answers the calls, lists of calls made on it, and demand 3 of them.
+pub mod Engine
+pub mod Demand

@@ -1,0 +1,1 @@
+// Demand 3, once, for whatever answers the calls. Definitions in specs/, theorems in proofs/; no code.

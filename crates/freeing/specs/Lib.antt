@@ -1,0 +1,2 @@
+-- What the contract of a piece that is freed cites.
+pub mod Free

@@ -1,0 +1,42 @@
+-- What a refusal leaves, and that the contracts allow one result. Assumes nothing.
+use Prim.Native.Nat.{ℕ, _≤_}
+use mathlib.Core.Bool.{Bool, true, false}
+use mathlib.Core.Logic.{_≢_}
+use mathlib.Core.Path.{_≡_, refl, sym, ap, _∙_}
+use Rattle.lists.specs.Links.{none}
+use Rattle.rules.specs.Rules.{Book, Answer, Call, step}
+use Rattle.laws.proofs.Outcomes.{Outcome, refusal, took, gave, outcome}
+use Rattle.state.specs.State.{stateOf}
+use Rattle.state.specs.Sound.{bookOf}
+use Rattle.state.specs.declared.MemoryAllocator.{MemoryAllocator}
+use Rattle.sound.specs.IsSound.{isSound}
+use Rattle.soundness.specs.Paragraph.{Sized}
+use Rattle.soundness.proofs.Exact.{passes-sound}
+use Rattle.calls.specs.Calls.{numberOf}
+use Rattle.serving.specs.Made.{made, judged}
+use Rattle.calls.specs.declared.Outcome as result
+
+refused-book : (n : ℕ) (b : Book) (c : Call) (w : Answer) → Outcome n b c w → w .number ≢ 0 → w .book ≡ b
+refused-book n b c _ (refusal k h m) d = refl
+refused-book n b c _ (took x r f h) d = absurd (d refl)
+refused-book n b c _ (gave f h) d = absurd (d refl)
+
+module _ (n : ℕ) (small : n ≤ none) (s : MemoryAllocator) (c : Call) where
+  -- A refused call hands back the identical state, whatever the state and the numbers.
+  pub refused-same : Sized n s → numberOf (made n s c .answer) ≢ 0 → made n s c .state ≡ s
+  unfolding judged
+  refused-same z d = go (isSound n s) refl d
+    where
+      w : Answer
+      w = step n c (bookOf n s)
+
+      go : (t : Bool) → isSound n s ≡ t → numberOf (judged n (step n c) s .answer) ≢ 0 → judged n (step n c) s .state ≡ s
+      go false e d = rw e
+      go true e d =
+          let p = passes-sound n small s z e in
+          let k : step n c (bookOf n s) .number ≢ 0 = λ q. d (rw (e, q) refl) in
+          rw e (ap (stateOf n) (refused-book n (bookOf n s) c _ (outcome n (bookOf n s) c (p .book)) k) ∙ p .state)
+
+  -- Any two results that the contract of a call allows coincide: number, address and the whole next state.
+  pub determined : (r r′ : result.Outcome) → r ≡ made n s c → r′ ≡ made n s c → r ≡ r′
+  determined r r′ e e′ = e ∙ sym e′
