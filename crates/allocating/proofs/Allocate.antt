@@ -7,7 +7,7 @@ use lib.ListN.{getD}
 use lib.Dec.{leb, leb→le}
 use native.Mathlib.Omega.{arith}
 use borrow.Author.Tests.{eq-eqb, ne-eqb, lt-ltb, le-ltb, le-leb, lt-leb}
-use Rattle.rules.specs.Rules.{top, Range, Book, Answer, accepted, refused, refuse, allocate, allocateFrom, total, taken, up, fits, find}
+use Rattle.rules.specs.Rules.{top, Range, Book, accepted, refused, refuse, allocate, allocateFrom, total, taken, up, fits, find}
 use Rattle.laws.proofs.Lists.{found}
 use Rattle.laws.proofs.Outcomes.{le-up}
 use Rattle.state.specs.State.{Holds}
@@ -16,6 +16,7 @@ use Rattle.state.specs.declared.MemoryAllocator.{MemoryAllocator}
 use Rattle.links.specs.Hits.{hitOf}
 use Rattle.links.specs.declared.Hit.the-variants.{At, Nothing}
 use Rattle.take.specs.Take.{Asks, refuses}
+use Rattle.allocating.specs.Fit.{allocateFit}
 use Rattle.links.proofs.Hits.{hit-at, hit-nothing}
 use Rattle.state.proofs.States.{stands-at}
 
@@ -32,14 +33,11 @@ module _ (n z o : ℕ) (b : Book) where
   unfolding allocate refuse
   too-few e h g = rw (ne-eqb z 0 e, le-ltb 63 o h, le-leb (total b) z g)
 
-  pub searched : z ≢ 0 → o ≤ 63 → z < total b → allocate n z o b ≡ allocateFrom n z o b (find (fits z o) (b .shelf))
+  pub searched : z ≢ 0 → o ≤ 63 → z < total b → allocate n z o b ≡ allocateFit n z o b
   unfolding allocate refuse
   searched e h g = rw (ne-eqb z 0 e, le-ltb 63 o h, lt-leb (total b) z g)
 
-  abbrev rule : Answer
-  rule = allocateFrom n z o b (find (fits z o) (b .shelf))
-
-  pub none-fits : Nothing ≡ hitOf (find (fits z o) (b .shelf)) → rule ≡ refused 3 b
+  pub none-fits : Nothing ≡ hitOf (find (fits z o) (b .shelf)) → allocateFit n z o b ≡ refused 3 b
   unfolding allocateFrom
   none-fits q = ap (allocateFrom n z o b) (hit-nothing (fits z o) (b .shelf) q)
 
@@ -47,7 +45,7 @@ module _ (n z o : ℕ) (b : Book) where
   pub record Fitted (s : MemoryAllocator) (i a : ℕ) : Type 0 where
     pub range : Range
     pub asks : Asks n b s i a (a + z) range
-    pub answer : rule ≡ cond (refuses n b range a (a + z)) (refused 1 b) (accepted a (taken n range a (a + z) b))
+    pub answer : allocateFit n z o b ≡ cond (refuses n b range a (a + z)) (refused 1 b) (accepted a (taken n range a (a + z) b))
 
   pub fitted : 0 < z → (s : MemoryAllocator) (j : RecordIndex) (a : ℕ) → Holds n b s → At j ≡ hitOf (find (fits z o) (b .shelf)) → a ≡ up o (getD (s .start) (j .0) 0)
       → Fitted s (j .0) a

@@ -10,10 +10,11 @@ use state::MAX_ORDER;
 use state::POOL;
 use take::define_used_memory;
 ghost use Prim.Native.Nat.{_+_, _<_, _≤_};
-ghost use Rattle.rules.specs.Rules.{allocate, allocateFrom, find, fits};
+ghost use Rattle.rules.specs.Rules.{allocate};
 ghost use Rattle.state.specs.Shown.{pool};
 ghost use Rattle.state.specs.Lent.{HoldsSome};
 ghost use Rattle.calls.specs.Answers.{Follows};
+ghost use Rattle.allocating.specs.Fit.{allocateFit};
 
 // `size` bytes are taken from the first range of the shelf that fits, if there is one.
 fn allocate_fit(
@@ -32,7 +33,7 @@ fn allocate_fit(
 ) -> Answer
     requires { ⌜ HoldsSome pool total first heads start end enabled previous next lprev lnext ⌝ }
     requires { ⌜ (0 < size) × (order ≤ 63) ⌝ }
-    ensures { λ k. ⌜ Follows pool (λ b. allocateFrom pool size order b (find (fits size order) (b .shelf))) k total first heads start end enabled previous next lprev lnext ⌝ }
+    ensures { λ k. ⌜ Follows pool (allocateFit pool size order) k total first heads start end enabled previous next lprev lnext ⌝ }
 {
     let fit = find_fit(start, end, lnext, heads, size, order);
     let Hit::At(i) = fit else {

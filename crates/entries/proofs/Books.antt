@@ -16,6 +16,8 @@ use Rattle.laws.proofs.Lists.{in-before→, in-before←, in-without→, in-wit
 use Rattle.rules.specs.Sound.{Sound, Other, Ahead}
 use Rattle.laws.proofs.Kept.{put-sound, remove-sound, in-remove→, others-apart}
 use Rattle.state.specs.Shown.{numbers, at, Stops, Shelved, Chained, Marked, Shape}
+use Rattle.state.specs.State.{arrays}
+use Rattle.state.specs.declared.MemoryAllocator.{MemoryAllocator}
 use Rattle.shelf.specs.Shelf.{Removes, Places, Resizes}
 use Rattle.chain.specs.Chain.{Enters}
 use Rattle.entries.specs.Entries.{Replaces, Inserts, Drops}
@@ -58,6 +60,10 @@ chained-same n c d first prev next e t = record { threads = rw e at (t .threads)
 
 -- ---- r replaced by q, where it stands
 
+-- the state m with other ranges, on other size lists
+abbrev pub resized : MemoryAllocator → List ℕ → List ℕ → List ℕ → List ℕ → List ℕ → MemoryAllocator
+resized m heads start end lprev lnext = arrays (m .«free_size») (m .«first_entry» .0) heads start end (m .enabled) (m .previous) (m .next) lprev lnext
+
 module _ (n : ℕ) (b : Book) (r q : Range) (s : Sound n b) (k : Replaces n b r q) where
   abbrev w : (l : List Range) × (u : List Range) × (b .chain ≡ l ++ r ∷ u)
   w = part r (b .chain) (k .member)
@@ -93,45 +99,47 @@ module _ (n : ℕ) (b : Book) (r q : Range) (s : Sound n b) (k : Replaces n b r 
       (λ p m. let v = in-remove→ r b p m in
       (λ e. v .1 (k .number ∙ e), elim (others-apart n b r p s (k .member) (v .0) (v .1)) [ inl h ↦ inl (k .low p (v .0) h) | inr h ↦ inr (k .high p (v .0) h) ]))
 
-  pub replaced : (first : ℕ) (heads start end : List ℕ) (en : List Bool) (prev next lprev lnext heads′ lprev′ lnext′ : List ℕ)
-      → Shape n b first heads start end en prev next lprev lnext
-      → Shelved n (before size q (without (q .number) (b .shelf))) (set start (q .number) (q .start)) (set end (q .number) (q .last)) lprev′ lnext′ heads′
-      → Shape n (put q (remove r b)) first heads′ (set start (q .number) (q .start)) (set end (q .number) (q .last)) en prev next lprev′ lnext′
+  pub replaced : {m : MemoryAllocator} {heads′ lprev′ lnext′ : List ℕ} → Shape n b m
+      → Shelved n (before size q (without (q .number) (b .shelf))) (set (m .start) (q .number) (q .start)) (set (m .end) (q .number) (q .last)) lprev′ lnext′ heads′
+      → Shape n (put q (remove r b)) (resized m heads′ (set (m .start) (q .number) (q .start)) (set (m .end) (q .number) (q .last)) lprev′ lnext′)
   unfolding put remove
-  replaced first heads start end en prev next lprev lnext heads′ lprev′ lnext′ t v =
+  replaced {m} t v =
+      let start = m .start in let end = m .end in
       let i = q .number in
       record {
         sound = replace-sound;
         kept = record {
-          marked = marked-same n (b .chain) _ en replace-numbers (t .kept .marked);
+          marked = marked-same n (b .chain) _ (m .enabled) replace-numbers (t .kept .marked);
           start-length = length-set start i (q .start) ∙ t .kept .start-length;
           end-length = length-set end i (q .last) ∙ t .kept .end-length;
-          stand = λ p m. elim (in-before→ startOf q (without (r .number) (b .chain)) p m) [
+          stand = λ p y. elim (in-before→ startOf q (without (r .number) (b .chain)) p y) [
             | inl e ↦ rw e (range-at n start end i (q .start) (q .last) (t .kept .start-length) (t .kept .end-length) (k .good .known))
             | inr j ↦ let z = in-without→ (r .number) (b .chain) p j in
                 range-other start end i (q .start) (q .last) (p .number) (λ e. z .1 (k .number ∙ sym e)) ∙ t .kept .stand p (z .0)
           ];
           clear = λ j bj f.
               let d : j ≢ i = f q (in-before← startOf q (without (r .number) (b .chain)) q (inl refl)) in
-              let g = t .kept .clear j bj (λ p m e. let z = has-in (p .number) (before startOf q (without (r .number) (b .chain))) (rw replace-numbers at (in-has p (b .chain) m)) in f (z .0) (z .1) (e ∙ z .2)) in
+              let g = t .kept .clear j bj (λ p y e.
+              let z = has-in (p .number) (before startOf q (without (r .number) (b .chain))) (rw replace-numbers at (in-has p (b .chain) y)) in f (z .0) (z .1) (e ∙ z .2)) in
               (getD-set-other start i j (q .start) 0 d ∙ g .0, getD-set-other end i j (q .last) 0 d ∙ g .1);
         };
-        chained = chained-same n (b .chain) _ first prev next replace-numbers (t .chained);
+        chained = chained-same n (b .chain) _ (m .«first_entry» .0) (m .previous) (m .next) replace-numbers (t .chained);
         shelved = rw (k .number) v;
       }
 
 -- ---- r taken out
 
-module _ (n : ℕ) (small : n ≤ none) (b : Book) (r : Range) (m : In r (b .chain)) where
-  pub dropped : (first : ℕ) (heads start end : List ℕ) (en : List Bool) (prev next lprev lnext : List ℕ) (first′ : ℕ) (prev′ next′ heads′ lprev′ lnext′ : List ℕ)
-      → Shape n b first heads start end en prev next lprev lnext
+module _ (n : ℕ) (small : n ≤ none) (b : Book) (r : Range) (member : In r (b .chain)) where
+  pub dropped : {m : MemoryAllocator} {first′ : ℕ} {prev′ next′ heads′ lprev′ lnext′ : List ℕ} → Shape n b m
       → Chained n (without (r .number) (b .chain)) first′ prev′ next′
-      → Shelved n (without (r .number) (b .shelf)) start end lprev′ lnext′ heads′
-      → Shape n (remove r b) first′ heads′ (set start (r .number) 0) (set end (r .number) 0) (set en (r .number) false) prev′ next′ lprev′ lnext′
+      → Shelved n (without (r .number) (b .shelf)) (m .start) (m .end) lprev′ lnext′ heads′
+      → Shape n (remove r b) (arrays (m .«free_size») first′ heads′ (set (m .start) (r .number) 0) (set (m .end) (r .number) 0) (set (m .enabled) (r .number) false)
+      prev′ next′ lprev′ lnext′)
   unfolding remove
-  dropped first heads start end en prev next lprev lnext first′ prev′ next′ heads′ lprev′ lnext′ t c v =
+  dropped {m} t c v =
+      let start = m .start in let end = m .end in let en = m .enabled in
       let i = r .number in
-      let g = t .sound .good r m in
+      let g = t .sound .good r member in
       let still : (j : ℕ) → j ≢ i → ((p : Range) → In p (without i (b .chain)) → j ≢ p .number) → (p : Range) → In p (b .chain) → j ≢ p .number
       = λ j d f p z e. ⊎-elim (λ (h : i ≡ p .number). d (e ∙ sym h)) (λ (h : i ≢ p .number). f p (in-without← i (b .chain) p z h) e) (same? i (p .number)) in
       record {
@@ -157,19 +165,20 @@ module _ (n : ℕ) (small : n ≤ none) (b : Book) (r : Range) (m : In r (b .cha
               (same? j i);
         };
         chained = c;
-        shelved = reslot n small (without i (b .shelf)) start end lprev′ lnext′ heads′ i 0 0 v (λ p z. in-without→ i (b .shelf) p z .1);
+        shelved = reslot n small (without i (b .shelf)) start end _ _ _ i 0 0 v (λ p z. in-without→ i (b .shelf) p z .1);
       }
 
 -- ---- q put in
 
 module _ (n : ℕ) (small : n ≤ none) (b : Book) (q : Range) where
-  pub inserted : (bn an first : ℕ) (heads start end : List ℕ) (en : List Bool) (prev next lprev lnext : List ℕ) (first′ : ℕ) (prev′ next′ heads′ lprev′ lnext′ : List ℕ)
-      → (k : Inserts n b first heads start end en prev next lprev lnext bn an q)
+  pub inserted : {m : MemoryAllocator} {x y first′ : ℕ} {prev′ next′ heads′ lprev′ lnext′ : List ℕ} (k : Inserts n b m x y q)
       → Chained n (k .gap .walked .passed ++ q ∷ k .gap .walked .rest) first′ prev′ next′
-      → Shelved n (before size q (b .shelf)) (set start (q .number) (q .start)) (set end (q .number) (q .last)) lprev′ lnext′ heads′
-      → Shape n (put q b) first′ heads′ (set start (q .number) (q .start)) (set end (q .number) (q .last)) (set en (q .number) true) prev′ next′ lprev′ lnext′
+      → Shelved n (before size q (b .shelf)) (set (m .start) (q .number) (q .start)) (set (m .end) (q .number) (q .last)) lprev′ lnext′ heads′
+      → Shape n (put q b) (arrays (m .«free_size») first′ heads′ (set (m .start) (q .number) (q .start)) (set (m .end) (q .number) (q .last)) (set (m .enabled) (q .number) true)
+      prev′ next′ lprev′ lnext′)
   unfolding put
-  inserted bn an first heads start end en prev next lprev lnext first′ prev′ next′ heads′ lprev′ lnext′ k c v =
+  inserted {m} k c v =
+      let start = m .start in let end = m .end in let en = m .enabled in
       let i = q .number in
       let t = k .shape in
       let g = k .gap in
@@ -203,59 +212,69 @@ module _ (n : ℕ) (small : n ≤ none) (b : Book) (q : Range) where
 
 -- ---- what the steps ask of the shelf and of the chain
 
-module _ (n : ℕ) (small : n ≤ none) (b : Book) (first : ℕ) (heads start end : List ℕ) (en : List Bool) (prev next lprev lnext : List ℕ) where
-  pub drop-removes : (i : ℕ) (r : Range) → Drops n b first heads start end en prev next lprev lnext i r → Removes n start end lprev lnext heads i (b .shelf)
-  drop-removes i r k =
-      let t = k .shape in
-      record {
-        shelved = t .shelved;
-        member = rw (k .number) (rw (t .kept .stand r (k .member)) (t .sound .same r .0 (k .member)));
-      }
+module _ {n : ℕ} (small : n ≤ none) {b : Book} {m : MemoryAllocator} where
+  module _ {i : ℕ} {r : Range} (k : Drops n b m i r) where
+    pub drop-removes : Removes n (m .start) (m .end) (m .«list_prev») (m .«list_next») (m .«free_list») i (b .shelf)
+    drop-removes =
+        let t = k .shape in
+        record {
+          shelved = t .shelved;
+          member = rw (k .number) (rw (t .kept .stand r (k .member)) (t .sound .same r .0 (k .member)));
+        }
 
-  pub drop-below : (i : ℕ) (r : Range) → Drops n b first heads start end en prev next lprev lnext i r → i < n
-  drop-below i r k = rw (k .number) (k .shape .sound .good r (k .member) .known)
+    pub drop-below : i < n
+    drop-below = rw (k .number) (k .shape .sound .good r (k .member) .known)
 
-  pub drop-has : (i : ℕ) (r : Range) → Drops n b first heads start end en prev next lprev lnext i r → has i (numbers (b .chain)) ≡ true
-  drop-has i r k = rw (k .number) (in-has r (b .chain) (k .member))
+    pub drop-has : has i (numbers (b .chain)) ≡ true
+    drop-has = rw (k .number) (in-has r (b .chain) (k .member))
 
-  module _ (x y : ℕ) (q : Range) (k : Inserts n b first heads start end en prev next lprev lnext x y q) where
-    pub insert-enters : Enters n first prev next x y q (k .gap .walked .passed) (k .gap .walked .rest)
+    pub drop-shape : {first′ : ℕ} {prev′ next′ heads′ lprev′ lnext′ : List ℕ}
+        → Chained n (without i (b .chain)) first′ prev′ next′
+        → Shelved n (without i (b .shelf)) (m .start) (m .end) lprev′ lnext′ heads′
+        → Shape n (remove r b) (arrays (m .«free_size») first′ heads′ (set (m .start) i 0) (set (m .end) i 0) (set (m .enabled) i false) prev′ next′ lprev′ lnext′)
+    drop-shape c v = let e = k .number in rw e (dropped n small b r (k .member) (k .shape) (rw e at c) (rw e at v))
+
+  module _ {x y : ℕ} {q : Range} (k : Inserts n b m x y q) where
+    pub insert-enters : Enters n (m .«first_entry» .0) (m .previous) (m .next) x y q (k .gap .walked .passed) (k .gap .walked .rest)
     insert-enters =
         let e = k .gap .walked .parts in
         record {
           chained = rw e at (k .shape .chained);
           below = k .good .known;
-          loose = λ p m. k .apart p (rw e m) .0;
+          loose = λ p z. k .apart p (rw e z) .0;
           low = k .gap .walked .low;
           high = k .gap .walked .high;
         }
 
-    pub insert-at : at (set start (q .number) (q .start)) (set end (q .number) (q .last)) (q .number) ≡ q
-    insert-at = range-at n start end (q .number) (q .start) (q .last) (k .shape .kept .start-length) (k .shape .kept .end-length) (k .good .known)
+    pub insert-at : at (set (m .start) (q .number) (q .start)) (set (m .end) (q .number) (q .last)) (q .number) ≡ q
+    insert-at = range-at n (m .start) (m .end) (q .number) (q .start) (q .last) (k .shape .kept .start-length) (k .shape .kept .end-length) (k .good .known)
 
-    pub insert-places : Places n (set start (q .number) (q .start)) (set end (q .number) (q .last)) lprev lnext heads (q .number) (b .shelf)
+    pub insert-places : Places n (set (m .start) (q .number) (q .start)) (set (m .end) (q .number) (q .last)) (m .«list_prev») (m .«list_next») (m .«free_list») (q .number) (b .shelf)
     insert-places =
-        let loose : (p : Range) → In p (b .shelf) → q .number ≢ p .number = λ p m. k .apart p (k .shape .sound .same p .1 m) .0 in
+        let loose : (p : Range) → In p (b .shelf) → q .number ≢ p .number = λ p z. k .apart p (k .shape .sound .same p .1 z) .0 in
         record {
-          shelved = reslot n small (b .shelf) start end lprev lnext heads (q .number) (q .start) (q .last) (k .shape .shelved) loose;
+          shelved = reslot n small (b .shelf) (m .start) (m .end) (m .«list_prev») (m .«list_next») (m .«free_list») (q .number) (q .start) (q .last) (k .shape .shelved) loose;
           good = rw insert-at (k .good);
           loose = loose;
         }
 
+    pub insert-shape : {first′ : ℕ} {prev′ next′ heads′ lprev′ lnext′ : List ℕ} → let start′ = set (m .start) (q .number) (q .start) in let end′ = set (m .end) (q .number) (q .last) in
+        Chained n (k .gap .walked .passed ++ q ∷ k .gap .walked .rest) first′ prev′ next′
+        → Shelved n (before size (at start′ end′ (q .number)) (b .shelf)) start′ end′ lprev′ lnext′ heads′
+        → Shape n (put q b) (arrays (m .«free_size») first′ heads′ start′ end′ (set (m .enabled) (q .number) true) prev′ next′ lprev′ lnext′)
+    insert-shape c v = inserted n small b q k c (rw insert-at at v)
+
 -- ---- a record's range exchanged for another in its place
 
-module _ (n : ℕ) (small : n ≤ none) (b : Book) (first : ℕ) (heads start end : List ℕ) (en : List Bool) (prev next lprev lnext : List ℕ)
-    (t : Shape n b first heads start end en prev next lprev lnext) (r : Range) (i s e : ℕ) (k : Replaces n b r (range i s e)) where
-  pub swap-resizes : Resizes n start end lprev lnext heads (range i s e) (b .shelf)
+module _ {n : ℕ} (small : n ≤ none) {b : Book} {m : MemoryAllocator} (t : Shape n b m) {r : Range} {i s e : ℕ} (k : Replaces n b r (range i s e)) where
+  pub swap-resizes : Resizes n (m .start) (m .end) (m .«list_prev») (m .«list_next») (m .«free_list») (range i s e) (b .shelf)
   swap-resizes = record {
-    removes = drop-removes n small b first heads start end en prev next lprev lnext i r (record { shape = t; member = k .member; number = sym (k .number) });
+    removes = drop-removes small (record { shape = t; member = k .member; number = sym (k .number) });
     good = k .good;
   }
 
-  pub swap-shape : (start′ end′ heads′ lprev′ lnext′ : List ℕ)
-      → start′ ≡ set start i s → end′ ≡ set end i e
+  pub swap-shape : {start′ end′ heads′ lprev′ lnext′ : List ℕ}
+      → start′ ≡ set (m .start) i s → end′ ≡ set (m .end) i e
       → Shelved n (before size (range i s e) (without i (b .shelf))) start′ end′ lprev′ lnext′ heads′
-      → Shape n (put (range i s e) (remove r b)) first heads′ start′ end′ en prev next lprev′ lnext′
-  swap-shape start′ end′ heads′ lprev′ lnext′ es ee v =
-      rw (es, ee)
-      (replaced n b r (range i s e) (t .sound) k first heads start end en prev next lprev lnext heads′ lprev′ lnext′ t (rw (es, ee) at v))
+      → Shape n (put (range i s e) (remove r b)) (resized m heads′ start′ end′ lprev′ lnext′)
+  swap-shape es ee v = rw (es, ee) (replaced n b r (range i s e) (t .sound) k t (rw (es, ee) at v))

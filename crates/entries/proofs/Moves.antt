@@ -2,11 +2,19 @@
 use Prim.Native.Nat.{ℕ}
 use mathlib.Core.Bool.{Bool, true, false, cond}
 use mathlib.Core.Path.{_≡_, sym, ap, _∙_, subst}
-use Rattle.rules.specs.Rules.{Book}
-use Rattle.state.specs.State.{Holds}
+use Rattle.rules.specs.Rules.{Book, total}
+use Rattle.state.specs.Shown.{Shape}
+use Rattle.state.specs.State.{arrays, Holds}
 use Rattle.state.specs.declared.MemoryAllocator.{MemoryAllocator}
 use Rattle.entries.specs.Entries.{movingOf, Leaves}
 use Rattle.entries.specs.declared.Moving.the-variants.{Done, NoRecord}
+
+-- the state m with the total t; a shape does not speak of it
+abbrev pub recount : ℕ → MemoryAllocator → MemoryAllocator
+recount t m = arrays t (m .«first_entry» .0) (m .«free_list») (m .start) (m .end) (m .enabled) (m .previous) (m .next) (m .«list_prev») (m .«list_next»)
+
+pub recounted : {n t : ℕ} {b : Book} {m : MemoryAllocator} → Shape n b m → t ≡ total b → Holds n b (recount t m)
+recounted v e = record { shape = record { sound = v .sound; kept = v .kept; chained = v .chained; shelved = v .shelved }; counts = e }
 
 module _ (n : ℕ) (wants : Bool) (b b′ : Book) (s : MemoryAllocator) where
   pub done : (c : Book) → wants ≡ false → b′ ≡ c → Holds n c s → Leaves n wants b b′ Done s

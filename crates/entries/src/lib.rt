@@ -53,8 +53,8 @@ pub fn delete_entry(
     lnext: &mut [u16; POOL],
     i: RecordIndex,
 )
-    requires { ⌜ DropsSome pool first heads start end enabled previous next lprev lnext (i .0) ⌝ }
-    ensures { λ _. ⌜ Dropped pool first heads start end enabled previous next lprev lnext (i .0) ⌝ }
+    requires { ⌜ DropsSome pool (i .0) first heads start end enabled previous next lprev lnext ⌝ }
+    ensures { λ _. ⌜ Dropped pool (i .0) first heads start end enabled previous next lprev lnext ⌝ }
 {
     unchain_entry_from_free_list(start, end, lprev, lnext, heads, i);
     unchain(first, previous, next, i);
@@ -81,8 +81,8 @@ pub fn insert(
     s: Address,
     e: Address,
 )
-    requires { ⌜ InsertsSome pool first heads start end enabled previous next lprev lnext (x .0) (y .0) (range (j .0) (s .0) (e .0)) ⌝ }
-    ensures { λ _. ⌜ Inserted pool first heads start end enabled previous next lprev lnext (x .0) (y .0) (range (j .0) (s .0) (e .0)) ⌝ }
+    requires { ⌜ InsertsSome pool (x .0) (y .0) (range (j .0) (s .0) (e .0)) first heads start end enabled previous next lprev lnext ⌝ }
+    ensures { λ _. ⌜ Inserted pool (x .0) (y .0) (range (j .0) (s .0) (e .0)) first heads start end enabled previous next lprev lnext ⌝ }
 {
     enchain(first, previous, next, x, j, y);
     let m = j.0 as usize;

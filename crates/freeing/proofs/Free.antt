@@ -11,7 +11,7 @@ use Rattle.state.specs.Shown.{Gapped}
 use Rattle.state.specs.State.{Holds}
 use Rattle.give.specs.Give.{Offers, wants}
 use Rattle.state.specs.declared.MemoryAllocator.{MemoryAllocator}
-use Rattle.freeing.specs.Free.{freeFrom}
+use Rattle.freeing.specs.Piece.{freePiece}
 
 module _ (n s z : ℕ) (b : Book) where
   pub free-zero : z ≡ 0 → free n s z b ≡ refused 4 b
@@ -22,17 +22,17 @@ module _ (n s z : ℕ) (b : Book) where
   unfolding free refuse
   free-past e h = rw (ne-eqb z 0 e, lt-ltb top (s + z) h)
 
-  pub free-passed : z ≢ 0 → s + z ≤ top → free n s z b ≡ freeFrom n s (s + z) b
-  unfolding free refuse freeFrom
+  pub free-passed : z ≢ 0 → s + z ≤ top → free n s z b ≡ freePiece n s (s + z) b
+  unfolding free refuse freePiece
   free-passed e h = rw (ne-eqb z 0 e, le-ltb top (s + z) h)
 
 module _ (n a t : ℕ) (b : Book) where
-  pub free-overlaps : any (meets a t) (b .chain) ≡ true → freeFrom n a t b ≡ refused 4 b
-  unfolding freeFrom refuse
+  pub free-overlaps : any (meets a t) (b .chain) ≡ true → freePiece n a t b ≡ refused 4 b
+  unfolding freePiece refuse
   free-overlaps g = rw g
 
-  pub free-answer : any (meets a t) (b .chain) ≡ false → freeFrom n a t b ≡ cond (wants n b a t) (refused 1 b) (accepted 0 (given n a t b))
-  unfolding freeFrom refuse
+  pub free-answer : any (meets a t) (b .chain) ≡ false → freePiece n a t b ≡ cond (wants n b a t) (refused 1 b) (accepted 0 (given n a t b))
+  unfolding freePiece refuse
   free-answer g = rw g
 
   pub offers : (m : MemoryAllocator) (x y : ℕ) → Holds n b m → Gapped startOf (b .chain) a x y → a < t → t ≤ top → any (meets a t) (b .chain) ≡ false → Offers n b m x y a t

@@ -1,2 +1,2 @@
--- What the contract of a piece that is freed cites.
-pub mod Free
+-- What the contract of a search with its move cites.
+pub mod Piece

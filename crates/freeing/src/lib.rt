@@ -14,7 +14,7 @@ ghost use Rattle.rules.specs.Rules.{top, free};
 ghost use Rattle.state.specs.Shown.{pool};
 ghost use Rattle.state.specs.Lent.{HoldsSome};
 ghost use Rattle.calls.specs.Answers.{Follows};
-ghost use Rattle.freeing.specs.Free.{freeFrom};
+ghost use Rattle.freeing.specs.Piece.{freePiece};
 
 // The bytes from `address` to before `past` become free, if none of them is.
 fn free_piece(
@@ -33,7 +33,7 @@ fn free_piece(
 ) -> Answer
     requires { ⌜ HoldsSome pool total first heads start end enabled previous next lprev lnext ⌝ }
     requires { ⌜ (address .0 < past .0) × (past .0 ≤ top) ⌝ }
-    ensures { λ k. ⌜ Follows pool (freeFrom pool (address .0) (past .0)) k total first heads start end enabled previous next lprev lnext ⌝ }
+    ensures { λ k. ⌜ Follows pool (freePiece pool (address .0) (past .0)) k total first heads start end enabled previous next lprev lnext ⌝ }
 {
     let gap = search_entry_previous_address(start, next, RecordIndex(*first), address);
     let before = gap.before;

@@ -17,10 +17,10 @@ use Rattle.laws.proofs.Lists.{find-one, find-none, compared}
 use Rattle.laws.proofs.Kept.{others-apart, unused-other, same-number, remove-sound, in-remove→, in-remove←}
 use Rattle.laws.proofs.Sums.{sum-append, sum-between, total-put, total-remove}
 use Rattle.state.specs.Shown.{at, Shape}
-use Rattle.state.specs.State.{arrays}
+use Rattle.state.specs.declared.MemoryAllocator.{MemoryAllocator}
 use Rattle.entries.specs.Entries.{Replaces, Inserts, Drops}
 use Rattle.entries.specs.declared.Moving.the-variants.{Done, NoRecord}
-use Rattle.entries.proofs.Moves.{done, refused}
+use Rattle.entries.proofs.Moves.{recount, recounted, done, refused}
 use Rattle.chain.proofs.Neighbours.{pair-left, pair-right, high-starts, Below, below, none-below, Above, above, none-above}
 use Rattle.state.proofs.Walks.{in-left, in-right}
 use Rattle.give.specs.Give.{Offers, wants, Joins}
@@ -83,9 +83,8 @@ alone-total tot rest a t e h = omega arith
 
 -- ---- the neighbours
 
-module _ (n : ℕ) (small : n ≤ links.none) (tot first : ℕ) (heads start end : List ℕ) (en : List Bool) (prev next lprev lnext : List ℕ) (x y a t : ℕ)
-    (b : Book) (k : Offers n b (arrays tot first heads start end en prev next lprev lnext) x y a t) where
-  abbrev shape : Shape n b first heads start end en prev next lprev lnext
+module _ {n : ℕ} (small : n ≤ links.none) {s : MemoryAllocator} {x y a t : ℕ} {b : Book} (k : Offers n b s x y a t) where
+  abbrev shape : Shape n b s
   shape = k .holds .shape
 
   abbrev good : (r : Range) → In r (b .chain) → Good n r
@@ -97,9 +96,9 @@ module _ (n : ℕ) (small : n ≤ links.none) (tot first : ℕ) (heads start end
   abbrev Over : Type 0
   Over = Above n small (b .chain) good (shape .sound .apart) a x y (k .gap)
 
-  known : (i : ℕ) (r : Range) → i ≡ r .number → In r (b .chain) → (i < n) × (getD start i 0 ≡ r .start) × (getD end i 0 ≡ r .last)
+  known : (i : ℕ) (r : Range) → i ≡ r .number → In r (b .chain) → (i < n) × (getD (s .start) i 0 ≡ r .start) × (getD (s .end) i 0 ≡ r .last)
   known i r e m =
-      let q : at start end i ≡ r = rw e (shape .kept .stand r m) in
+      let q : at (s .start) (s .end) i ≡ r = rw e (shape .kept .stand r m) in
       (rw e (good r m .known), ap (λ (p : Range). p .start) q, ap (λ (p : Range). p .last) q)
 
   -- what the tests tell
@@ -118,48 +117,50 @@ module _ (n : ℕ) (small : n ≤ links.none) (tot first : ℕ) (heads start end
     pub side : Over
     pub meets : side .range .start ≡ t
 
-  pub joins-below : (ltb x n && eqb (suc (getD end x 0)) a) ≡ true → Joins-below
+  pub joins-below : (ltb x n && eqb (suc (getD (s .end) x 0)) a) ≡ true → Joins-below
   joins-below e =
-      let w = both-parts (ltb x n) (eqb (suc (getD end x 0)) a) e in
+      let w = both-parts (ltb x n) (eqb (suc (getD (s .end) x 0)) a) e in
       let i = index x (w .0) in
-      let s = below n small (b .chain) good (shape .sound .apart) a x y (k .gap) (i .1) in
-      let q = known x (s .range) (s .number) (s .member) in
-      record { side = s; meets = ap suc (sym (q .2)) ∙ eqb→eq (suc (getD end x 0)) a (subst T (sym (w .1)) tt) }
+      let near = below n small (b .chain) good (shape .sound .apart) a x y (k .gap) (i .1) in
+      let q = known x (near .range) (near .number) (near .member) in
+      record { side = near; meets = ap suc (sym (q .2)) ∙ eqb→eq (suc (getD (s .end) x 0)) a (subst T (sym (w .1)) tt) }
 
-  pub joins-above : (ltb y n && eqb (getD start y 0) t) ≡ true → Joins-above
+  pub joins-above : (ltb y n && eqb (getD (s .start) y 0) t) ≡ true → Joins-above
   joins-above e =
-      let w = both-parts (ltb y n) (eqb (getD start y 0) t) e in
+      let w = both-parts (ltb y n) (eqb (getD (s .start) y 0) t) e in
       let i = index y (w .0) in
-      let s = above n small (b .chain) good (shape .sound .apart) a x y (k .gap) (i .1) in
-      let q = known y (s .range) (s .number) (s .member) in
-      record { side = s; meets = sym (q .1) ∙ eqb→eq (getD start y 0) t (subst T (sym (w .1)) tt) }
+      let near = above n small (b .chain) good (shape .sound .apart) a x y (k .gap) (i .1) in
+      let q = known y (near .range) (near .number) (near .member) in
+      record { side = near; meets = sym (q .1) ∙ eqb→eq (getD (s .start) y 0) t (subst T (sym (w .1)) tt) }
 
-  pub free-below : (ltb x n && eqb (suc (getD end x 0)) a) ≡ false → (q : Range) → In q (b .chain) → suc (q .last) ≢ a
+  pub free-below : (ltb x n && eqb (suc (getD (s .end) x 0)) a) ≡ false → (q : Range) → In q (b .chain) → suc (q .last) ≢ a
   free-below e q m h = ⊎-elim
-      (λ (d : x ≡ links.none). let s = none-below n small (b .chain) good (shape .sound .apart) a x y (k .gap) d q m in let p = good q m .proper in let v : ⊥ = omega arith in v)
+      (λ (d : x ≡ links.none). let near = none-below n small (b .chain) good (shape .sound .apart) a x y (k .gap) d q m in let p = good q m .proper in let v : ⊥ = omega arith in v)
       (λ (d : x ≢ links.none).
-      let s = below n small (b .chain) good (shape .sound .apart) a x y (k .gap) d in
-      let w = known x (s .range) (s .number) (s .member) in
-      elim (s .others q m) [
-        | inl f ↦ let p : (ltb x n && eqb (suc (getD end x 0)) a) ≡ true = rw (lt-ltb x n (w .0), eq-eqb (suc (getD end x 0)) a (ap suc (w .2) ∙ ap (λ (r : Range). suc (r .last)) (sym f) ∙ h)) in true≢false (sym p ∙ e)
+      let near = below n small (b .chain) good (shape .sound .apart) a x y (k .gap) d in
+      let w = known x (near .range) (near .number) (near .member) in
+      elim (near .others q m) [
+        | inl f ↦ let p : (ltb x n && eqb (suc (getD (s .end) x 0)) a) ≡ true = rw (lt-ltb x n (w .0), eq-eqb (suc (getD (s .end) x 0)) a (ap suc (w .2) ∙ ap (λ (r : Range). suc (r .last)) (sym f) ∙ h)) in
+            true≢false (sym p ∙ e)
         | inr f ↦ elim f [
-          | inl g ↦ let i = s .starts in let p = good (s .range) (s .member) .proper in let v : ⊥ = omega arith in v
+          | inl g ↦ let i = near .starts in let p = good (near .range) (near .member) .proper in let v : ⊥ = omega arith in v
           | inr g ↦ let p = good q m .proper in let v : ⊥ = omega arith in v
         ]
       ])
       (same? x links.none)
 
-  pub free-above : (ltb y n && eqb (getD start y 0) t) ≡ false → (q : Range) → In q (b .chain) → q .start ≢ t
+  pub free-above : (ltb y n && eqb (getD (s .start) y 0) t) ≡ false → (q : Range) → In q (b .chain) → q .start ≢ t
   free-above e q m h = ⊎-elim
-      (λ (d : y ≡ links.none). let s = none-above n small (b .chain) good (shape .sound .apart) a x y (k .gap) d q m in let v : ⊥ = omega (arith, k .some-byte) in v)
+      (λ (d : y ≡ links.none). let near = none-above n small (b .chain) good (shape .sound .apart) a x y (k .gap) d q m in let v : ⊥ = omega (arith, k .some-byte) in v)
       (λ (d : y ≢ links.none).
-      let s = above n small (b .chain) good (shape .sound .apart) a x y (k .gap) d in
-      let w = known y (s .range) (s .number) (s .member) in
-      let p = good (s .range) (s .member) .proper in
-      elim (s .others q m) [
-        | inl f ↦ let z : (ltb y n && eqb (getD start y 0) t) ≡ true = rw (lt-ltb y n (w .0), eq-eqb (getD start y 0) t (w .1 ∙ ap (λ (r : Range). r .start) (sym f) ∙ h)) in true≢false (sym z ∙ e)
+      let near = above n small (b .chain) good (shape .sound .apart) a x y (k .gap) d in
+      let w = known y (near .range) (near .number) (near .member) in
+      let p = good (near .range) (near .member) .proper in
+      elim (near .others q m) [
+        | inl f ↦ let z : (ltb y n && eqb (getD (s .start) y 0) t) ≡ true = rw (lt-ltb y n (w .0), eq-eqb (getD (s .start) y 0) t (w .1 ∙ ap (λ (r : Range). r .start) (sym f) ∙ h)) in
+            true≢false (sym z ∙ e)
         | inr f ↦ elim f [
-          | inl g ↦ elim (k .clear (s .range) (s .member)) [ inl c ↦ let i = s .starts in let v : ⊥ = omega arith in v | inr c ↦ let v : ⊥ = omega arith in v ]
+          | inl g ↦ elim (k .clear (near .range) (near .member)) [ inl c ↦ let i = near .starts in let v : ⊥ = omega arith in v | inr c ↦ let v : ⊥ = omega arith in v ]
           | inr g ↦ let v : ⊥ = omega (arith, k .some-byte) in v
         ]
       ])
@@ -192,7 +193,7 @@ module _ (n : ℕ) (small : n ≤ links.none) (tot first : ℕ) (heads start end
 
   -- ---- the sum fits
 
-  pub sum-fits : tot + (t - a) ≤ top
+  pub sum-fits : s .«free_size» + (t - a) ≤ top
   sum-fits =
       let g = k .gap .walked in
       let ap′ : Pairwise Ahead (g .passed ++ g .rest) = rw (g .parts) at (shape .sound .apart) in
@@ -204,11 +205,11 @@ module _ (n : ℕ) (small : n ≤ links.none) (tot first : ℕ) (heads start end
       let hi : sum (g .rest) + t ≤ top = sum-between t top (g .rest) (pair-right Ahead (g .passed) (g .rest) ap′) (k .below)
       (λ q m. let p = good q (inr′ q m) in let h = high-starts n small (b .chain) good (shape .sound .apart) a x y (k .gap) q m in
       (elim (k .clear q (inr′ q m)) [ inl c ↦ absurd (let z = p .proper in let v : ⊥ = omega arith in v) | inr c ↦ c ], p .proper, let z = p .below in omega arith)) in
-      let e : tot ≡ sum (g .passed) + sum (g .rest) = k .holds .counts ∙ ap sum (g .parts) ∙ sum-append (g .passed) (g .rest) in
+      let e : s .«free_size» ≡ sum (g .passed) + sum (g .rest) = k .holds .counts ∙ ap sum (g .parts) ∙ sum-append (g .passed) (g .rest) in
       omega (arith, k .some-byte)
 
   abbrev more : ℕ
-  more = tot + (t - a)
+  more = s .«free_size» + (t - a)
 
   -- ---- joined with the range below
 
@@ -216,12 +217,12 @@ module _ (n : ℕ) (small : n ≤ links.none) (tot first : ℕ) (heads start end
     abbrev l : Range
     l = j .side .range
 
-    pub below-known : (x < n) × (getD start x 0 ≡ l .start) × (getD end x 0 ≡ l .last)
+    pub below-known : (x < n) × (getD (s .start) x 0 ≡ l .start) × (getD (s .end) x 0 ≡ l .last)
     below-known = known x l (j .side .number) (j .side .member)
 
     module _ (f : (q : Range) → In q (b .chain) → q .start ≢ t) where
       abbrev low-joined : Range
-      low-joined = range x (getD start x 0) (t - 1)
+      low-joined = range x (getD (s .start) x 0) (t - 1)
 
       pub low-replaces : Replaces n b l low-joined
       low-replaces =
@@ -234,23 +235,20 @@ module _ (n : ℕ) (small : n ≤ links.none) (tot first : ℕ) (heads start end
             high = λ q m h. elim (k .clear q m) [ inl c ↦ absurd (let z = good q m .proper in let v : ⊥ = omega arith in v) | inr c ↦ let d : q .start ≢ t = f q m in omega (arith, k .some-byte) ];
           }
 
-      pub low-done : (first′ : ℕ) (heads′ start′ end′ : List ℕ) (en′ : List Bool) (prev′ next′ lprev′ lnext′ : List ℕ)
-          → Shape n (put low-joined (remove l b)) first′ heads′ start′ end′ en′ prev′ next′ lprev′ lnext′
-          → Joins n b a t Done (arrays more first′ heads′ start′ end′ en′ prev′ next′ lprev′ lnext′)
+      pub low-done : {s′ : MemoryAllocator} → Shape n (put low-joined (remove l b)) s′
+          → Joins n b a t Done (recount more s′)
       unfolding given joined
-      low-done first′ heads′ start′ end′ en′ prev′ next′ lprev′ lnext′ v =
+      low-done v =
           let w = below-known in let e₁ = lower-is j in let e₂ = upper-none f in let i₁ = w .1 in let i₂ = j .side .number in
           done n (wants n b a t) b (given n a t b) _ (put low-joined (remove l b))
           (λ z. alone (e₁ z) (upper t b) && full n b)
           ((λ z. joined (unused n b) a t (e₁ z) (e₂ z) b) ∙ sym (λ z. put (range (i₂ z) (i₁ z) (t - 1)) (remove l b)))
-          (record {
-            shape = v;
-            counts = low-total tot (size l) (total (remove l b)) (l .start) a t (size low-joined)
-                (k .holds .counts ∙ total-remove n l b (shape .sound) (j .side .member))
-                (spare (suc (l .last)) (l .start) (let p = good l (j .side .member) .proper in omega arith) ∙ j .meets)
-                (low-spare (getD start x 0) (l .start) t i₁ (let p = good l (j .side .member) .proper in omega (arith, j .meets, k .some-byte)))
-                (k .some-byte) ∙ sym (total-put low-joined (remove l b));
-          })
+          (recounted v
+          (low-total (s .«free_size») (size l) (total (remove l b)) (l .start) a t (size low-joined)
+          (k .holds .counts ∙ total-remove n l b (shape .sound) (j .side .member))
+          (spare (suc (l .last)) (l .start) (let p = good l (j .side .member) .proper in omega arith) ∙ j .meets)
+          (low-spare (getD (s .start) x 0) (l .start) t i₁ (let p = good l (j .side .member) .proper in omega (arith, j .meets, k .some-byte)))
+          (k .some-byte) ∙ sym (total-put low-joined (remove l b))))
 
   -- ---- joined with the range above
 
@@ -258,12 +256,12 @@ module _ (n : ℕ) (small : n ≤ links.none) (tot first : ℕ) (heads start end
     abbrev u : Range
     u = j .side .range
 
-    pub above-known : (y < n) × (getD start y 0 ≡ u .start) × (getD end y 0 ≡ u .last)
+    pub above-known : (y < n) × (getD (s .start) y 0 ≡ u .start) × (getD (s .end) y 0 ≡ u .last)
     above-known = known y u (j .side .number) (j .side .member)
 
     module _ (f : (q : Range) → In q (b .chain) → suc (q .last) ≢ a) where
       abbrev high-joined : Range
-      high-joined = range y a (getD end y 0)
+      high-joined = range y a (getD (s .end) y 0)
 
       pub high-replaces : Replaces n b u high-joined
       high-replaces =
@@ -276,23 +274,20 @@ module _ (n : ℕ) (small : n ≤ links.none) (tot first : ℕ) (heads start end
             high = λ q m h. let i = w .2 in omega arith;
           }
 
-      pub high-done : (first′ : ℕ) (heads′ start′ end′ : List ℕ) (en′ : List Bool) (prev′ next′ lprev′ lnext′ : List ℕ)
-          → Shape n (put high-joined (remove u b)) first′ heads′ start′ end′ en′ prev′ next′ lprev′ lnext′
-          → Joins n b a t Done (arrays more first′ heads′ start′ end′ en′ prev′ next′ lprev′ lnext′)
+      pub high-done : {s′ : MemoryAllocator} → Shape n (put high-joined (remove u b)) s′
+          → Joins n b a t Done (recount more s′)
       unfolding given joined
-      high-done first′ heads′ start′ end′ en′ prev′ next′ lprev′ lnext′ v =
+      high-done v =
           let w = above-known in let e₁ = lower-none f in let e₂ = upper-is j in let i₁ = w .2 in let i₂ = j .side .number in
           done n (wants n b a t) b (given n a t b) _ (put high-joined (remove u b))
           (λ z. alone (e₁ z) (e₂ z) && full n b)
           ((λ z. joined (unused n b) a t (e₁ z) (e₂ z) b) ∙ sym (λ z. put (range (i₂ z) a (i₁ z)) (remove u b)))
-          (record {
-            shape = v;
-            counts = high-total tot (size u) (total (remove u b)) (u .last) a t (size high-joined)
-                (k .holds .counts ∙ total-remove n u b (shape .sound) (j .side .member))
-                (ap (λ (z : ℕ). size u + z) (sym (j .meets)) ∙ spare (suc (u .last)) (u .start) (let p = good u (j .side .member) .proper in omega arith))
-                (high-spare (getD end y 0) (u .last) a i₁ (let p = good u (j .side .member) .proper in omega (arith, j .meets, k .some-byte)))
-                (k .some-byte) ∙ sym (total-put high-joined (remove u b));
-          })
+          (recounted v
+          (high-total (s .«free_size») (size u) (total (remove u b)) (u .last) a t (size high-joined)
+          (k .holds .counts ∙ total-remove n u b (shape .sound) (j .side .member))
+          (ap (λ (z : ℕ). size u + z) (sym (j .meets)) ∙ spare (suc (u .last)) (u .start) (let p = good u (j .side .member) .proper in omega arith))
+          (high-spare (getD (s .end) y 0) (u .last) a i₁ (let p = good u (j .side .member) .proper in omega (arith, j .meets, k .some-byte)))
+          (k .some-byte) ∙ sym (total-put high-joined (remove u b))))
 
   -- ---- joined with both
 
@@ -304,13 +299,13 @@ module _ (n : ℕ) (small : n ≤ links.none) (tot first : ℕ) (heads start end
     hi = ja .side .range
 
     abbrev whole : Range
-    whole = range x (getD start x 0) (getD end y 0)
+    whole = range x (getD (s .start) x 0) (getD (s .end) y 0)
 
-    pub both-drops : Drops n b first heads start end en prev next lprev lnext y hi
+    pub both-drops : Drops n b s y hi
     both-drops = record { shape = shape; member = ja .side .member; number = ja .side .number }
 
     differ : Other hi lo
-    differ e = let s = same-number n b hi lo (shape .sound) (ja .side .member) (jb .side .member) e in let i = ap (λ (r : Range). r .start) s in
+    differ e = let near = same-number n b hi lo (shape .sound) (ja .side .member) (jb .side .member) e in let i = ap (λ (r : Range). r .start) near in
         let m = ja .meets in let m′ = jb .meets in let p = good lo (jb .side .member) .proper in let v : ⊥ = omega (arith, k .some-byte) in v
 
     pub both-replaces : Replaces n (remove hi b) lo whole
@@ -330,27 +325,24 @@ module _ (n : ℕ) (small : n ≤ links.none) (tot first : ℕ) (heads start end
               ];
         }
 
-    pub both-done : (first′ : ℕ) (heads′ start′ end′ : List ℕ) (en′ : List Bool) (prev′ next′ lprev′ lnext′ : List ℕ)
-        → Shape n (put whole (remove lo (remove hi b))) first′ heads′ start′ end′ en′ prev′ next′ lprev′ lnext′
-        → Joins n b a t Done (arrays more first′ heads′ start′ end′ en′ prev′ next′ lprev′ lnext′)
+    pub both-done : {s′ : MemoryAllocator} → Shape n (put whole (remove lo (remove hi b))) s′
+        → Joins n b a t Done (recount more s′)
     unfolding given joined
-    both-done first′ heads′ start′ end′ en′ prev′ next′ lprev′ lnext′ v =
+    both-done v =
         let w = below-known jb in let w′ = above-known ja in let e₁ = lower-is jb in let e₂ = upper-is ja in
         let i₁ = w .1 in let i₂ = w′ .2 in let i₃ = jb .side .number in let sw = remove-swap lo hi b in
         let p = good lo (jb .side .member) .proper in let p′ = good hi (ja .side .member) .proper in
         done n (wants n b a t) b (given n a t b) _ (put whole (remove lo (remove hi b)))
         (λ z. alone (e₁ z) (upper t b) && full n b)
         ((λ z. joined (unused n b) a t (e₁ z) (e₂ z) b) ∙ sym (λ z. put (range (i₃ z) (i₁ z) (i₂ z)) (sw z)))
-        (record {
-          shape = v;
-          counts = both-total tot (size lo) (size hi) (total (remove lo (remove hi b))) (lo .start) (hi .last) a t (size whole)
-              (k .holds .counts ∙ total-remove n hi b (shape .sound) (ja .side .member)
-              ∙ ap (λ (z : ℕ). size hi + z) (total-remove n lo (remove hi b) (remove-sound n b hi (shape .sound)) (both-replaces .member)))
-              (spare (suc (lo .last)) (lo .start) (omega arith) ∙ jb .meets)
-              (ap (λ (z : ℕ). size hi + z) (sym (ja .meets)) ∙ spare (suc (hi .last)) (hi .start) (omega arith))
-              (whole-spare (getD start x 0) (lo .start) (getD end y 0) (hi .last) i₁ i₂ (omega (arith, jb .meets, ja .meets, k .some-byte)))
-              (k .some-byte) ∙ sym (total-put whole (remove lo (remove hi b)));
-        })
+        (recounted v
+        (both-total (s .«free_size») (size lo) (size hi) (total (remove lo (remove hi b))) (lo .start) (hi .last) a t (size whole)
+        (k .holds .counts ∙ total-remove n hi b (shape .sound) (ja .side .member)
+        ∙ ap (λ (z : ℕ). size hi + z) (total-remove n lo (remove hi b) (remove-sound n b hi (shape .sound)) (both-replaces .member)))
+        (spare (suc (lo .last)) (lo .start) (omega arith) ∙ jb .meets)
+        (ap (λ (z : ℕ). size hi + z) (sym (ja .meets)) ∙ spare (suc (hi .last)) (hi .start) (omega arith))
+        (whole-spare (getD (s .start) x 0) (lo .start) (getD (s .end) y 0) (hi .last) i₁ i₂ (omega (arith, jb .meets, ja .meets, k .some-byte)))
+        (k .some-byte) ∙ sym (total-put whole (remove lo (remove hi b)))))
 
   -- ---- alone
 
@@ -358,7 +350,7 @@ module _ (n : ℕ) (small : n ≤ links.none) (tot first : ℕ) (heads start end
     wants-full : wants n b a t ≡ full n b
     wants-full = let e₁ = lower-none f in let e₂ = upper-none g in (λ z. alone (e₁ z) (e₂ z) && full n b)
 
-    pub no-record : n ≤ unused n b → Joins n b a t NoRecord (arrays tot first heads start end en prev next lprev lnext)
+    pub no-record : n ≤ unused n b → Joins n b a t NoRecord s
     no-record h = refused n (wants n b a t) b (given n a t b) _ (wants-full ∙ le-leb n (unused n b) h) (k .holds)
 
     module _ (i : ℕ) (ei : i ≡ unused n b) (bi : i < n) where
@@ -368,7 +360,7 @@ module _ (n : ℕ) (small : n ≤ links.none) (tot first : ℕ) (heads start end
       bu : unused n b < n
       bu = rw ei at bi
 
-      pub alone-inserts : Inserts n b first heads start end en prev next lprev lnext x y new
+      pub alone-inserts : Inserts n b s x y new
       alone-inserts = record {
         shape = shape;
         good = record { known = bi; proper = omega (arith, k .some-byte); below = omega (arith, k .some-byte, k .below) };
@@ -379,13 +371,12 @@ module _ (n : ℕ) (small : n ≤ links.none) (tot first : ℕ) (heads start end
         gap = k .gap;
       }
 
-      pub alone-done : (first′ : ℕ) (heads′ start′ end′ : List ℕ) (en′ : List Bool) (prev′ next′ lprev′ lnext′ : List ℕ)
-          → Shape n (put new b) first′ heads′ start′ end′ en′ prev′ next′ lprev′ lnext′
-          → Joins n b a t Done (arrays more first′ heads′ start′ end′ en′ prev′ next′ lprev′ lnext′)
+      pub alone-done : {s′ : MemoryAllocator} → Shape n (put new b) s′
+          → Joins n b a t Done (recount more s′)
       unfolding given joined
-      alone-done first′ heads′ start′ end′ en′ prev′ next′ lprev′ lnext′ v =
+      alone-done v =
           let e₁ = lower-none f in let e₂ = upper-none g in
           done n (wants n b a t) b (given n a t b) _ (put new b)
           (wants-full ∙ lt-leb n (unused n b) bu)
           ((λ z. joined (unused n b) a t (e₁ z) (e₂ z) b) ∙ sym (λ z. put (range (ei z) a (t - 1)) b))
-          (record { shape = v; counts = (let e = k .holds .counts in let c = total-put new b in let s = k .some-byte in alone-total tot (total b) a t e s) ∙ sym (total-put new b) })
+          (recounted v (alone-total (s .«free_size») (total b) a t (k .holds .counts) (k .some-byte) ∙ sym (total-put new b)))

@@ -7,7 +7,7 @@ use lib.ListN.{length}
 use lib.Dec.{leb, eqb, leb→le}
 use native.Mathlib.Omega.{arith}
 use borrow.Author.Tests.{eq-eqb, ne-eqb, lt-ltb, le-ltb}
-use Rattle.rules.specs.Rules.{top, Range, Book, Answer, accepted, refused, refuse, reserve, reserveFrom, total, taken, whole, contains, up, down, find}
+use Rattle.rules.specs.Rules.{top, Range, Book, accepted, refused, refuse, reserve, reserveFrom, total, taken, whole, contains, up, down, find}
 use Rattle.laws.proofs.Lists.{and-l, and-r}
 use Rattle.laws.proofs.Facts.{up-plain, down-plain}
 use Rattle.state.specs.State.{Holds}
@@ -17,6 +17,7 @@ use Rattle.state.specs.declared.MemoryAllocator.{MemoryAllocator}
 use Rattle.links.specs.Hits.{hitOf}
 use Rattle.links.specs.declared.Hit.the-variants.{At, Nothing}
 use Rattle.take.specs.Take.{Asks, refuses}
+use Rattle.reserving.specs.Piece.{reservePiece}
 use Rattle.links.proofs.Hits.{hit-at, hit-nothing}
 use Rattle.chain.proofs.Held.{chain-ordered}
 
@@ -45,17 +46,14 @@ pub record Passed (s z o total : ℕ) : Type 0 where
   pub ends : s + z ≤ top
 
 -- with order 0
-pub reserve-plain : (n s z : ℕ) (b : Book) → z ≢ 0 → z ≤ total b → s + z ≤ top → reserve n s z 0 b ≡ reserveFrom n s (s + z) b (find (contains s (s + z)) (b .chain))
+pub reserve-plain : (n s z : ℕ) (b : Book) → z ≢ 0 → z ≤ total b → s + z ≤ top → reserve n s z 0 b ≡ reservePiece n s (s + z) b
 unfolding reserve refuse
 reserve-plain n s z b e g f =
     let d : up 0 (s + z) - down 0 s ≤ total b = let p = up-plain (s + z) in let q = down-plain s in omega arith in
     rw (ne-eqb z 0 e, le-ltb (total b) z g, le-ltb top (s + z) f, le-ltb (total b) (up 0 (s + z) - down 0 s) d, up-plain (s + z), down-plain s)
 
 module _ (n a t : ℕ) (b : Book) (some-byte : a < t) where
-  abbrev rule : Answer
-  rule = reserveFrom n a t b (find (contains a t) (b .chain))
-
-  pub not-inside : Nothing ≡ hitOf (find (contains a t) (b .chain)) → rule ≡ refused 4 b
+  pub not-inside : Nothing ≡ hitOf (find (contains a t) (b .chain)) → reservePiece n a t b ≡ refused 4 b
   unfolding reserveFrom
   not-inside q = ap (reserveFrom n a t b) (hit-nothing (contains a t) (b .chain) q)
 
@@ -63,8 +61,8 @@ module _ (n a t : ℕ) (b : Book) (some-byte : a < t) where
     pub range : Range
     pub asks : Asks n b s i a t range
     pub chosen : Chosen n (b .chain) (s .start) (s .end) (s .next) (s .«first_entry» .0) i range
-    pub only : (whole a t range && eqb (length (b .chain)) 1) ≡ true → rule ≡ refused 1 b
-    pub answer : (whole a t range && eqb (length (b .chain)) 1) ≡ false → rule ≡ cond (refuses n b range a t) (refused 1 b) (accepted 0 (taken n range a t b))
+    pub only : (whole a t range && eqb (length (b .chain)) 1) ≡ true → reservePiece n a t b ≡ refused 1 b
+    pub answer : (whole a t range && eqb (length (b .chain)) 1) ≡ false → reservePiece n a t b ≡ cond (refuses n b range a t) (refused 1 b) (accepted 0 (taken n range a t b))
 
   pub inside : (s : MemoryAllocator) (j : RecordIndex) → Holds n b s → At j ≡ hitOf (find (contains a t) (b .chain)) → Inside s (j .0)
   unfolding reserveFrom refuse

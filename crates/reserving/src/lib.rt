@@ -13,10 +13,11 @@ use state::RecordIndex;
 use state::TOP;
 use take::define_used_memory;
 ghost use Prim.Native.Nat.{_+_, _<_, _≤_};
-ghost use Rattle.rules.specs.Rules.{top, reserve, reserveFrom, find, contains};
+ghost use Rattle.rules.specs.Rules.{top, reserve};
 ghost use Rattle.state.specs.Shown.{pool};
 ghost use Rattle.state.specs.Lent.{HoldsSome};
 ghost use Rattle.calls.specs.Answers.{Follows};
+ghost use Rattle.reserving.specs.Piece.{reservePiece};
 
 // The bytes from `address` to before `past` are taken, if one range has them all and others remain.
 fn reserve_piece(
@@ -35,7 +36,7 @@ fn reserve_piece(
 ) -> Answer
     requires { ⌜ HoldsSome pool total first heads start end enabled previous next lprev lnext ⌝ }
     requires { ⌜ (address .0 < past .0) × (past .0 ≤ top) ⌝ }
-    ensures { λ k. ⌜ Follows pool (λ b. reserveFrom pool (address .0) (past .0) b (find (contains (address .0) (past .0)) (b .chain))) k total first heads start end enabled previous next lprev lnext ⌝ }
+    ensures { λ k. ⌜ Follows pool (reservePiece pool (address .0) (past .0)) k total first heads start end enabled previous next lprev lnext ⌝ }
 {
     let hit = search_entry_containing_address(start, end, next, RecordIndex(*first), address, past);
     let Hit::At(i) = hit else {

@@ -9,6 +9,7 @@ use Rattle.lists.specs.Links.{none, head, lastFrom, after, Listed}
 use Rattle.lists.specs.Threads.{Threads, alone, only}
 use Rattle.rules.specs.Rules.{records, sizeLists, Range, range, size, listNumber, ofList, Book}
 use Rattle.rules.specs.Sound.{In, Pairwise, Sound, Good, Smaller}
+use Rattle.state.specs.declared.MemoryAllocator.{MemoryAllocator}
 
 -- the number of records
 abbrev pub pool : ℕ
@@ -93,9 +94,9 @@ pub record Kept (n : ℕ) (c : List Range) (start end : List ℕ) (enabled : Lis
 
 -- ---- the whole
 
--- the arrays show the sound book b
-pub record Shape (n : ℕ) (b : Book) (first : ℕ) (heads start end : List ℕ) (enabled : List Bool) (previous next lprev lnext : List ℕ) : Type 0 where
+-- the arrays of s show the sound book b; the total is not looked at
+pub record Shape (n : ℕ) (b : Book) (s : MemoryAllocator) : Type 0 where
   pub sound : Sound n b
-  pub kept : Kept n (b .chain) start end enabled
-  pub chained : Chained n (b .chain) first previous next
-  pub shelved : Shelved n (b .shelf) start end lprev lnext heads
+  pub kept : Kept n (b .chain) (s .start) (s .end) (s .enabled)
+  pub chained : Chained n (b .chain) (s .«first_entry» .0) (s .previous) (s .next)
+  pub shelved : Shelved n (b .shelf) (s .start) (s .end) (s .«list_prev») (s .«list_next») (s .«free_list»)

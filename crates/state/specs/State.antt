@@ -28,7 +28,7 @@ arrays total first heads start end enabled previous next lprev lnext =
 
 -- the state holds the sound book b
 pub record Holds (n : ℕ) (b : Book) (s : MemoryAllocator) : Type 0 where
-  pub shape : Shape n b (s .«first_entry» .0) (s .«free_list») (s .start) (s .end) (s .enabled) (s .previous) (s .next) (s .«list_prev») (s .«list_next»)
+  pub shape : Shape n b s
   pub counts : s .«free_size» ≡ total b
 
 -- ---- the one state that holds a book

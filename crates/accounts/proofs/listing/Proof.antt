@@ -11,7 +11,11 @@ is-sound-requires : tie.Need-is-sound-requires
 is-sound-requires c κs = search needs
 
 list-in-requires : tie.Need-list-in-requires
-list-in-requires c κs = (_, ordered pool (lit≤ tt) _ (owned-sized _ _ (c .before .before .before .before .before .before .before .before .before .before .before .before .good .0)) (sym (c .before .before .before .before .before .before .before .before .before .is-sound .ensures) ∙ c .before .before .before .before .before .before .before .before .if1 .taken))
+list-in-requires c κs =
+    let at-if1 = c .before .before .before .before .before .before .before .before in
+    let at-is-sound = at-if1 .before in
+    let at-good = at-is-sound .before .before .before in
+    (_, ordered pool (lit≤ tt) _ (owned-sized _ _ (at-good .good .0)) (sym (at-is-sound .is-sound .ensures) ∙ at-if1 .if1 .taken))
 
 answer-listed-requires : tie.Need-answer-listed-requires
 answer-listed-requires c κs = search needs
@@ -24,8 +28,13 @@ same-length-2 c = search needs
 
 returns : tie.Need-returns
 returns c =
-    let e = sym (c .before .before .before .before .before .before .before .before .before .before .before .before .before .before .before .is-sound .ensures) ∙ c .before .before .before .before .before .before .before .before .before .before .before .before .before .before .if1 .taken in
-    sound-lists pool (lit≤ tt) _ _ _ _ _ _ _ e (c .before .before .before .before .before .list-in .ensures _ (ordered pool (lit≤ tt) _ (owned-sized _ _ (c .before .before .before .before .before .before .before .before .before .before .before .before .before .before .before .before .before .before .good .0)) e)) (c .answer-listed .ensures)
+    let at-list-in = c .before .before .before .before .before in
+    let back = at-list-in .before .before .before .before in
+    let at-if1 = back .before .before .before .before .before in
+    let at-is-sound = at-if1 .before in
+    let at-good = at-is-sound .before .before .before in
+    let e = sym (at-is-sound .is-sound .ensures) ∙ at-if1 .if1 .taken in
+    sound-lists pool (lit≤ tt) _ _ _ _ _ _ _ e (at-list-in .list-in .ensures _ (ordered pool (lit≤ tt) _ (owned-sized _ _ (at-good .good .0)) e)) (c .answer-listed .ensures)
 
 returns-2 : tie.Need-returns-2
 returns-2 c = unsound-lists pool (lit≤ tt) _ _ _ (sym (c .before .is-sound .ensures) ∙ c .if1 .left)

@@ -19,9 +19,11 @@ loop-holds : tie.Need-loop-holds Inv-loop μ-loop
 loop-holds c = (omega arith, (omega arith, refl))
 
 -- the byte that is read fits a byte, and the number with it fits
-next : (c : tie.After-wide Inv-loop μ-loop) → (c .before .before .before .loop .x * 256 + c .wide .result < 256 ^ (c .before .before .before .loop .i + 1)) × (c .before .before .before .loop .x * 256 + c .wide .result < 2 ^ 64)
+next : (c : tie.After-wide Inv-loop μ-loop) → let l = c .before .before .before .loop in
+    (l .x * 256 + c .wide .result < 256 ^ (l .i + 1)) × (l .x * 256 + c .wide .result < 2 ^ 64)
 next c =
-    let l = c .before .before .before .loop in
+    let at-loop = c .before .before .before in
+    let l = at-loop .loop in
     let b : c .wide .result < 256 = omega (arith, c .before .shared-slice-known2 .given (l .i), c .wide .ensures) in
     grows (l .i) (l .x) (c .wide .result) (omega arith) (omega arith) b
 

@@ -21,8 +21,9 @@ search-entry-previous-address-requires : tie.Need-search-entry-previous-address-
 search-entry-previous-address-requires c κs = search needs
 
 -- the place that the search gave, and the range below it
-gapped : (c : tie.After-i) (l : List Range) → Ordered pool l (c .before .before .before .args .start .now) (c .before .before .before .args .end .now) (c .before .before .before .args .next .now) (c .before .before .before .args .first .0)
-    → Gapped startOf l (c .before .before .before .args .address .0 + 1) (c .before .search-entry-previous-address .result .before .0) (c .before .search-entry-previous-address .result .after .0)
+gapped : (c : tie.After-i) → let x = c .before .before .before .args in
+    (l : List Range) → Ordered pool l (x .start .now) (x .end .now) (x .next .now) (x .first .0) → Gapped startOf l (x .address .0 + 1)
+    (c .before .search-entry-previous-address .result .before .0) (c .before .search-entry-previous-address .result .after .0)
 gapped c l o = c .before .search-entry-previous-address .ensures l _ (o .runs) (o .leads)
 
 low : (c : tie.Else1) (l : List Range) (o : Ordered pool l _ _ _ _)
@@ -58,16 +59,20 @@ sub-if2 c = search needs
 
 returns-2 : tie.Need-returns-2
 returns-2 c l o =
+    let back = c .before .before .before .before in
+    let at-start = back .before .before .before .before .before in
     let d = c .before .before .before .before in
     let e = last-is d l o in
-    ap hitOf (sym (short-contains pool (lit≤ tt) l (o .runs .good) (o .apart) _ _ _ _ (c .before .before .before .before .before .before .before .before .before .pre .1 .0) (gapped (d .before .before) l o) (low d l o) (omega (arith, c .if2 .taken))))
+    ap hitOf (sym (short-contains pool (lit≤ tt) l (o .runs .good) (o .apart) _ _ _ _ (at-start .pre .1 .0) (gapped (d .before .before) l o) (low d l o) (omega (arith, c .if2 .taken))))
 
 returns-3 : tie.Need-returns-3
 returns-3 c l o =
+    let back = c .before .before .before .before in
+    let at-start = back .before .before .before .before .before in
     let d = c .before .before .before .before in
     let e = last-is d l o in
     ap At (ap (λ (i : _). record { 0 = i }) (low d l o .number))
-    ∙ ap hitOf (sym (long-contains pool (lit≤ tt) l (o .runs .good) (o .apart) _ _ _ _ (c .before .before .before .before .before .before .before .before .before .pre .1 .0) (gapped (d .before .before) l o) (low d l o) (omega (arith, c .if2 .left))))
+    ∙ ap hitOf (sym (long-contains pool (lit≤ tt) l (o .runs .good) (o .apart) _ _ _ _ (at-start .pre .1 .0) (gapped (d .before .before) l o) (low d l o) (omega (arith, c .if2 .left))))
 
 pub search-entry-containing-address-spec : {M : Type 1} → statement M
 search-entry-containing-address-spec =

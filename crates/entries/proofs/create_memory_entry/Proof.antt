@@ -41,10 +41,11 @@ loop-less c = search needs
 
 loop-again : tie.Need-loop-again Inv-loop μ-loop
 loop-again c =
-    let i = c .before .before .before .loop .i in
+    let at-loop = c .before .before .before in
+    let i = at-loop .loop .i in
     let b : i < pool = omega arith in
     let q : pool - i - 1 ≡ pool - (i + 1) = omega arith in
-    (omega arith, λ l m. c .before .before .before .loop .inv .1 l m ∙ lowest-skip (pool - i) i l (omega arith) (sym (marked-any pool l _ m i b) ∙ not-false _ (c .if1 .left)) ∙ ap (λ (k : ℕ). lowest k (i + 1) l) q)
+    (omega arith, λ l m. at-loop .loop .inv .1 l m ∙ lowest-skip (pool - i) i l (omega arith) (sym (marked-any pool l _ m i b) ∙ not-false _ (c .if1 .left)) ∙ ap (λ (k : ℕ). lowest k (i + 1) l) q)
 
 returns-2 : tie.Need-returns-2 Inv-loop μ-loop
 returns-2 c l m =

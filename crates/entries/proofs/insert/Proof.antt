@@ -1,7 +1,7 @@
 use mathlib.Core.Path.{refl}
 use lib.Dec.{lit≤}
 use Rattle.state.specs.Shown.{pool}
-use Rattle.entries.proofs.Books.{inserted, insert-enters, insert-at, insert-places}
+use Rattle.entries.proofs.Books.{insert-enters, insert-places, insert-shape}
 use borrow.Author.Needs.{needs}
 use Rattle.entries.proofs.insert.Statement.{statement}
 use Rattle.entries.proofs.insert.Tie as tie
@@ -29,14 +29,16 @@ element-write-enabled c = search needs
 
 chain-entry-to-free-list-requires : tie.Need-chain-entry-to-free-list-requires
 chain-entry-to-free-list-requires c κs =
-    let u = c .before .before .before .before .before .before .before .before .before .before .pre in
-    (u .0 .shelf, insert-places pool (lit≤ tt) (u .0) _ _ _ _ _ _ _ _ _ _ _ _ (u .1))
+    let e = c .before .before .before .before .before .before in
+    let u = e .before .before .before .before .pre in
+    (u .1 .0 .shelf, insert-places (lit≤ tt) (u .1 .1))
 
 returns : tie.Need-returns
-returns c b k =
-    inserted pool (lit≤ tt) b _ _ _ _ _ _ _ _ _ _ _ _ _ _ _ _ _ _ k
-    (c .before .before .before .before .before .before .before .enchain .ensures _ _ _ refl (insert-enters pool (lit≤ tt) b _ _ _ _ _ _ _ _ _ _ _ _ k))
-    (rw (insert-at pool (lit≤ tt) b _ _ _ _ _ _ _ _ _ _ _ _ k) at (c .chain-entry-to-free-list .ensures (b .shelf) (insert-places pool (lit≤ tt) b _ _ _ _ _ _ _ _ _ _ _ _ k)))
+returns c total b k =
+    let e = c .before .before .before .before .before .before .before in
+    insert-shape (lit≤ tt) k
+    (e .enchain .ensures _ _ _ refl (insert-enters (lit≤ tt) k))
+    (c .chain-entry-to-free-list .ensures (b .shelf) (insert-places (lit≤ tt) k))
 
 pub insert-spec : {M : Type 1} → statement M
 insert-spec =

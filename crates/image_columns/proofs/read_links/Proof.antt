@@ -18,8 +18,11 @@ loop-holds : tie.Need-loop-holds Inv-loop μ-loop
 loop-holds c = (refl, fill-start _ _ _ refl)
 
 -- the field lies in the image
-room : (c : tie.In-loop Inv-loop μ-loop) → c .before .before .before .before .args .at + c .before .before .before .before .args .apart * c .before .loop .i + current .link ≤ length (c .before .before .before .before .args .image .now)
-room c = c .before .before .before .before .pre (c .before .loop .i) (omega arith)
+room : (c : tie.In-loop Inv-loop μ-loop) → let x = c .before .before .before .before .args in let l = c .before .loop in
+    x .at + x .apart * l .i + current .link ≤ length (x .image .now)
+room c =
+    let at-start = c .before .before .before .before in
+    at-start .pre (c .before .loop .i) (omega arith)
 
 mul-from : tie.Need-mul-from Inv-loop μ-loop
 mul-from c = omega (arith, room c)

@@ -21,7 +21,8 @@ loop-holds : tie.Need-loop-holds Inv-loop μ-loop
 loop-holds c l start end o = reached-start l _ (o .leads)
 
 -- in a turn, the walk has a range before it
-more : (c : tie.Then1 Inv-loop μ-loop) (l : List Range) (start end : List ℕ) → Ordered pool l start end (c .before .before .before .args .next .now) (c .before .before .before .args .first .0) → c .before .before .loop .count < length l
+more : (c : tie.Then1 Inv-loop μ-loop) → let x = c .before .before .before .args in let w = c .before .before .loop in
+    (l : List Range) (start end : List ℕ) → Ordered pool l start end (x .next .now) (x .first .0) → w .count < length l
 more c l start end o = one-more l _ _ (c .before .before .loop .inv l start end o) (c .if1 .taken)
 
 add-count : tie.Need-add-count Inv-loop μ-loop

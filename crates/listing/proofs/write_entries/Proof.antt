@@ -15,7 +15,8 @@ use Rattle.listing.proofs.write_entries.Statement.{statement}
 use Rattle.listing.proofs.write_entries.Tie as tie
 
 abbrev Inv-loop : tie.InvT-loop
-Inv-loop start end next starts₀ lasts₀ count₀ cur₀ starts lasts count cur = (length starts ≡ length starts₀) × (length lasts ≡ length lasts₀) × ((c : List Range) → Roomy pool c start end next (cur₀ .0) starts₀ lasts₀ → Writes c starts₀ lasts₀ starts lasts count (cur .0))
+Inv-loop start end next starts₀ lasts₀ count₀ cur₀ starts lasts count cur =
+    (length starts ≡ length starts₀) × (length lasts ≡ length lasts₀) × ((c : List Range) → Roomy pool c start end next (cur₀ .0) starts₀ lasts₀ → Writes c starts₀ lasts₀ starts lasts count (cur .0))
 
 abbrev μ-loop : tie.MeasureT-loop
 μ-loop start end next starts₀ lasts₀ count₀ cur₀ starts lasts count cur = steps (λ i. getD next i 0) pool (cur .0)
@@ -24,9 +25,8 @@ loop-holds : tie.Need-loop-holds Inv-loop μ-loop
 loop-holds c = (refl, refl, λ l o. writes-start pool (lit≤ tt) l _ _ _ _ _ _ o)
 
 -- in a turn, the walk has a range before it
-more : (c : tie.Then1 Inv-loop μ-loop) (l : List Range)
-    → Roomy pool l (c .before .before .before .before .before .args .start .now) (c .before .before .before .before .before .args .end .now) (c .before .before .before .before .before .args .next .now) (c .before .before .before .before .before .args .first .0) (c .before .before .before .before .before .args .starts .now) (c .before .before .before .before .before .args .lasts .now)
-    → c .before .before .loop .count < length l
+more : (c : tie.Then1 Inv-loop μ-loop) → let x = c .before .before .before .before .before .args in let w = c .before .before .loop in
+    (l : List Range) → Roomy pool l (x .start .now) (x .end .now) (x .next .now) (x .first .0) (x .starts .now) (x .lasts .now) → w .count < length l
 more c l o = one-more l _ _ (c .before .before .loop .inv .2 l o .reached) (c .if1 .taken)
 
 known : (c : tie.Then1 Inv-loop μ-loop) → c .before .before .loop .cur .0 < pool

@@ -29,8 +29,10 @@ same-length-2 c = search needs
 
 returns-2 : tie.Need-returns-2
 returns-2 c =
+    let at-address-of = c .before .before .before in
+    let at-if1 = at-address-of .before .before in
     let n = c .before .before .before .before .before .before in
-    placed-ok _ _ (n .number-of .ensures) _ _ _ _ _ (omega arith) (c .before .before .before .address-of .ensures) (c .before .before .before .before .before .if1 .left) (c .before .before .put-ok-at .ensures)
+    placed-ok _ _ (n .number-of .ensures) _ _ _ _ _ (omega arith) (at-address-of .address-of .ensures) (at-if1 .if1 .left) (c .before .before .put-ok-at .ensures)
 
 pub put-placed-spec : {M : Type 1} → statement M
 put-placed-spec =

@@ -34,15 +34,24 @@ free-in-requires c κs = search needs
 
 returns : tie.Need-returns
 unfolding step
-returns c b h = asked b _ _ _ _ (c .before .before .before .before .before .before .before .before .before .before .before .before .request .given .1) (c .allocate-in .ensures b h)
+returns c b h =
+    let back = c .before .before .before .before .before .before in
+    let at-request = back .before .before .before .before .before .before in
+    asked b _ _ _ _ (at-request .request .given .1) (c .allocate-in .ensures b h)
 
 returns-2 : tie.Need-returns-2
 unfolding step
-returns-2 c b h = asked b _ _ _ _ (c .before .before .before .before .before .before .before .before .before .before .before .before .request2 .given .1) (c .reserve-in .ensures b h)
+returns-2 c b h =
+    let back = c .before .before .before .before .before .before in
+    let at-request2 = back .before .before .before .before .before .before in
+    asked b _ _ _ _ (at-request2 .request2 .given .1) (c .reserve-in .ensures b h)
 
 returns-3 : tie.Need-returns-3
 unfolding step
-returns-3 c b h = asked b _ _ _ _ (c .before .before .before .before .before .before .before .before .before .before .before .before .request3 .given .1) (c .free-in .ensures b h)
+returns-3 c b h =
+    let back = c .before .before .before .before .before .before in
+    let at-request3 = back .before .before .before .before .before .before in
+    asked b _ _ _ _ (at-request3 .request3 .given .1) (c .free-in .ensures b h)
 
 pub serve-in-spec : {M : Type 1} → statement M
 serve-in-spec =

@@ -48,7 +48,8 @@ abbrev at-start : (t : ℕ) → Past t → reserve-in-lts.Start (called t) (rese
 at-start t c = c .before .before .before .before .before .before .before .before
 
 -- back to it over the ten lent fields
-abbrev widening : (t : ℕ) → reserve-in-lts.After-reserve-in-arg10 (called t) (reserve-in-at t) reserve-in.Post → reserve-in-lts.After-align-address-and-size (called t) (reserve-in-at t) reserve-in.Post
+abbrev widening : (t : ℕ) → reserve-in-lts.After-reserve-in-arg10 (called t) (reserve-in-at t) reserve-in.Post
+    → reserve-in-lts.After-align-address-and-size (called t) (reserve-in-at t) reserve-in.Post
 widening t c = let m = c .before .before .before .before .before in m .before .before .before .before .before
 
 abbrev plain : (t : ℕ) → reserve-in-lts.After-struct-known3 (called t) (reserve-in-at t) reserve-in.Post → reserve-in-lts.Else6 (called t) (reserve-in-at t) reserve-in.Post

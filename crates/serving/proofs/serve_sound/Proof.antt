@@ -9,12 +9,16 @@ use Rattle.serving.proofs.serve_sound.Tie as tie
 
 serve-in-requires : tie.Need-serve-in-requires
 serve-in-requires c κs =
-    let start = c .before .before .before .before .before .before .before .before .before .before .before .before .before .before .before .before .before .before in
+    let back = c .before .before .before .before .before .before .before .before in
+    let back2 = back .before .before .before .before .before in
+    let start = back2 .before .before .before .before .before in
     (_, book-held pool (lit≤ tt) _ (owned-sized _ _ (start .good .0)) (start .pre))
 
 returns : tie.Need-returns
 returns c =
-    let start = c .before .before .before .before .before .before .before .before .before .before .before .before .before .before .before .before .before .before .before in
+    let back = c .before .before .before .before .before .before .before .before in
+    let back2 = back .before .before .before .before .before in
+    let start = back2 .before .before .before .before .before .before in
     sound-judged pool (lit≤ tt) _ (step pool (callOf (start .args .request))) _ (owned-sized _ _ (start .good .0)) (start .pre) (c .serve-in .ensures)
 
 pub serve-sound-spec : {M : Type 1} → statement M

@@ -45,15 +45,17 @@ link-between-requires c κs = search needs
 
 returns : tie.Need-returns
 returns c l u =
+    let at-choose = c .before .before .before in
     let c₆ = c .before .before .before .before .before .before in
     let c₁₀ = c₆ .before .before .before .before in
     let a = c₁₀ .before .before .args in
     let ek = c₁₀ .size-to-page-order .ensures .0 ∙ ap listNumber (c₁₀ .before .get-size .ensures) in
     let t = u .shelved in
-    let g = c₆ .find-gap .ensures (ofList (keyAt (a .start .now) (a .end .now) (a .i .0)) l) (runs pool l _ _ _ _ _ t _) (t .firsts _ (c₁₀ .size-to-page-order .ensures .1) ∙ ap (λ (k : ℕ). head (numbers (ofList k l))) ek) in
+    let g = c₆ .find-gap .ensures (ofList (keyAt (a .start .now) (a .end .now) (a .i .0)) l) (runs pool l _ _ _ _ _ t _)
+    (t .firsts _ (c₁₀ .size-to-page-order .ensures .1) ∙ ap (λ (k : ℕ). head (numbers (ofList k l))) ek) in
     placed pool (lit≤ tt) _ _ _ _ _ _ l u _ _ _ (c₁₀ .before .get-size .ensures) g
-    (c₁₀ .size-to-page-order .result .0) _ (c .before .before .before .choose .result .0) _ _ _
-    ek refl (c .before .before .before .choose .ensures) refl
+    (c₁₀ .size-to-page-order .result .0) _ (at-choose .choose .result .0) _ _ _
+    ek refl (at-choose .choose .ensures) refl
     (c .link-between .ensures (keyAt (a .start .now) (a .end .now)) (λ k. numbers (ofList k l)) _ _ (t .threads)
     (between pool (lit≤ tt) _ _ _ _ _ _ l u _ _ _ (c₁₀ .before .get-size .ensures) g))
 

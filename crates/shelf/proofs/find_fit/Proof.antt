@@ -20,13 +20,15 @@ use Rattle.shelf.proofs.find_fit.Statement.{statement}
 use Rattle.shelf.proofs.find_fit.Tie as tie
 
 abbrev Inv-loop : tie.InvT-loop
-Inv-loop start end next heads size order hit₀ k cur₀ hit cur = (hit ≡ Nothing) × ((l : List Range) (prev : List ℕ) → Shelved pool l start end prev next heads → (b : ℕ) × Walked (mark (fits size order)) (ofList k l) 1 b (cur .0))
+Inv-loop start end next heads size order hit₀ k cur₀ hit cur =
+    (hit ≡ Nothing) × ((l : List Range) (prev : List ℕ) → Shelved pool l start end prev next heads → (b : ℕ) × Walked (mark (fits size order)) (ofList k l) 1 b (cur .0))
 
 abbrev μ-loop : tie.MeasureT-loop
 μ-loop start end next heads size order hit₀ k cur₀ hit cur = steps (λ i. getD next i 0) pool (cur .0)
 
 abbrev Inv-search : tie.InvT-search
-Inv-search start end next heads size order hit₀ k₀ hit k = (k ≤ sizeLists) × (hit ≡ Nothing) × ((l : List Range) (prev : List ℕ) → Shelved pool l start end prev next heads → find (fits size order) l ≡ find (fits size order) (lists k (sizeLists - k) l))
+Inv-search start end next heads size order hit₀ k₀ hit k =
+    (k ≤ sizeLists) × (hit ≡ Nothing) × ((l : List Range) (prev : List ℕ) → Shelved pool l start end prev next heads → find (fits size order) l ≡ find (fits size order) (lists k (sizeLists - k) l))
 
 abbrev μ-search : tie.MeasureT-search
 μ-search start end next heads size order hit₀ k₀ hit k = sizeLists - k
@@ -57,22 +59,30 @@ element-copy-out-t15 c = search needs
 loop-holds : tie.Need-loop-holds Inv-loop μ-loop Inv-search μ-search
 loop-holds c = (
   c .before .before .search .inv .1,
-  λ l prev t.
-      (_, walk-starts pool (lit≤ tt) (mark (fits _ _)) _ _ _ _ (runs pool l _ _ prev _ _ t (c .before .before .search .k)) 1 _ (t .firsts (c .before .before .search .k) (c .before .search-test .taken))),
+  λ l prev t. (
+    _,
+    walk-starts pool (lit≤ tt) (mark (fits _ _)) _ _ _ _ (runs pool l _ _ prev _ _ t (c .before .before .search .k)) 1 _
+        (t .firsts (c .before .before .search .k) (c .before .search-test .taken)),
+  ),
 )
 
 -- in a turn, the walk stands at a range of the list
-turn : (c : tie.Then1 Inv-loop μ-loop Inv-search μ-search) (l : List Range) (prev : List ℕ)
-    (t : Shelved pool l (c .before .before .before .before .before .before .before .before .args .start .now) (c .before .before .before .before .before .before .before .before .args .end .now) prev (c .before .before .before .before .before .before .before .before .args .next .now) (c .before .before .before .before .before .before .before .before .args .heads .now))
-    → (b : ℕ) × Stands pool (lit≤ tt) (mark (fits (c .before .before .before .before .before .before .before .before .args .size) (c .before .before .before .before .before .before .before .before .args .order))) (ofList (c .before .before .before .before .before .search .k) l) _ _ _ (runs pool l _ _ prev _ _ t (c .before .before .before .before .before .search .k)) 1 b (c .before .before .loop .cur .0)
+turn : (c : tie.Then1 Inv-loop μ-loop Inv-search μ-search)
+    → let x = c .before .before .before .before .before .before .before .before .args in let s = c .before .before .before .before .before .search in let w = c .before .before .loop in
+    (l : List Range) (prev : List ℕ) (t : Shelved pool l (x .start .now) (x .end .now) prev (x .next .now) (x .heads .now)) → (b : ℕ) × Stands pool (lit≤ tt) (mark (fits (x .size) (x .order)))
+    (ofList (s .k) l) _ _ _ (runs pool l _ _ prev _ _ t (s .k)) 1 b (w .cur .0)
 turn c l prev t =
+    let at-search = c .before .before .before .before .before in
     let w = c .before .before .loop .inv .1 l prev t in
-    (w .0, stands pool (lit≤ tt) _ _ _ _ _ (runs pool l _ _ prev _ _ t (c .before .before .before .before .before .search .k)) 1 _ _ (w .1) (c .if1 .taken))
+    (w .0, stands pool (lit≤ tt) _ _ _ _ _ (runs pool l _ _ prev _ _ t (at-search .search .k)) 1 _ _ (w .1) (c .if1 .taken))
 
-good-here : (c : tie.Then1 Inv-loop μ-loop Inv-search μ-search) → Good pool (at (c .before .before .before .before .before .before .before .before .args .start .now) (c .before .before .before .before .before .before .before .before .args .end .now) (c .before .before .loop .cur .0))
+good-here : (c : tie.Then1 Inv-loop μ-loop Inv-search μ-search) → let x = c .before .before .before .before .before .before .before .before .args in let l = c .before .before .loop in
+    Good pool (at (x .start .now) (x .end .now) (l .cur .0))
 good-here c =
-    let u = c .before .before .before .before .before .before .before .before .pre .0 in
-    stands-good pool (lit≤ tt) _ _ _ _ _ (runs pool (u .0) _ _ (u .1) _ _ (u .2) (c .before .before .before .before .before .search .k)) 1 _ _ (turn c (u .0) (u .1) (u .2) .1)
+    let at-search = c .before .before .before .before .before in
+    let at-start = at-search .before .before .before in
+    let u = at-start .pre .0 in
+    stands-good pool (lit≤ tt) _ _ _ _ _ (runs pool (u .0) _ _ (u .1) _ _ (u .2) (at-search .search .k)) 1 _ _ (turn c (u .0) (u .1) (u .2) .1)
 
 fits-at-requires : tie.Need-fits-at-requires Inv-loop μ-loop Inv-search μ-search
 fits-at-requires c κs = (good-here c, c .before .before .before .before .before .before .before .before .pre .1)
@@ -84,7 +94,8 @@ loop-less : tie.Need-loop-less Inv-loop μ-loop Inv-search μ-search
 loop-less c =
     let c₃ = c .before .before .before in
     let u = c₃ .before .before .before .before .before .before .before .before .pre .0 in
-    rw (c .link-of .ensures) (walk-less pool (lit≤ tt) _ _ _ _ _ (runs pool (u .0) _ _ (u .1) _ _ (u .2) (c₃ .before .before .before .before .before .search .k)) 1 _ _ (turn c₃ (u .0) (u .1) (u .2) .1))
+    rw (c .link-of .ensures)
+    (walk-less pool (lit≤ tt) _ _ _ _ _ (runs pool (u .0) _ _ (u .1) _ _ (u .2) (c₃ .before .before .before .before .before .search .k)) 1 _ _ (turn c₃ (u .0) (u .1) (u .2) .1))
 
 loop-again : tie.Need-loop-again Inv-loop μ-loop Inv-search μ-search
 loop-again c =
@@ -128,9 +139,11 @@ returns c l prev t =
 
 returns-2 : tie.Need-returns-2 Inv-loop μ-loop Inv-search μ-search
 returns-2 c l prev t =
+    let at-search = c .before .before .before .before .before .before .before in
+    let at-start = at-search .before .before .before in
     let c₂ = c .before .before in
-    let d = c .before .before .before .before .before .before .before .search in
-    let x = c .before .before .before .before .before .before .before .before .before .before .args in
+    let d = at-search .search in
+    let x = at-start .args in
     let w = turn c₂ l prev t .1 in
     let q = stands-at pool (lit≤ tt) _ _ _ _ _ (runs pool l _ _ prev _ _ t (d .k)) 1 _ _ w in
     ap At (ap (λ (i : ℕ). record { 0 = i }) (w .at-here))

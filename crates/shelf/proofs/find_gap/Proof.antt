@@ -21,9 +21,8 @@ loop-holds : tie.Need-loop-holds Inv-loop μ-loop
 loop-holds c l t e = walk-starts pool (lit≤ tt) size l _ _ _ t _ _ e
 
 -- in a turn, the walk stands at a range of the list
-turn : (c : tie.Then1 Inv-loop μ-loop) (l : List Range) (t : Runs pool l (c .before .before .before .args .start .now) (c .before .before .before .args .end .now) (c .before .before .before .args .next .now))
-    → c .before .before .before .args .first .0 ≡ head (numbers l)
-    → Stands pool (lit≤ tt) size l _ _ _ t (c .before .before .before .args .s) (c .before .before .loop .before .0) (c .before .before .loop .cur .0)
+turn : (c : tie.Then1 Inv-loop μ-loop) → let x = c .before .before .before .args in let w = c .before .before .loop in
+    (l : List Range) (t : Runs pool l (x .start .now) (x .end .now) (x .next .now)) → x .first .0 ≡ head (numbers l) → Stands pool (lit≤ tt) size l _ _ _ t (x .s) (w .before .0) (w .cur .0)
 turn c l t e = stands pool (lit≤ tt) size l _ _ _ t _ _ _ (c .before .before .loop .inv l t e) (c .if1 .taken)
 
 get-size-requires : tie.Need-get-size-requires Inv-loop μ-loop

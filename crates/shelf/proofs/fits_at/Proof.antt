@@ -24,10 +24,13 @@ align-address-and-available-size-requires c κs = search needs
 
 returns : tie.Need-returns
 returns c =
-    let x = c .before .before .before .before .before .args in
-    let g = c .before .before .before .before .before .pre .0 in
+    let at-get-size = c .before .before .before .before in
+    let at-start = at-get-size .before in
+    let x = at-start .args in
+    let g = at-start .pre .0 in
     let e = c .before .align-address-and-available-size .ensures in
-    ap (leb (x .size)) (e .1) ∙ fits-left (x .size) (up (x .order) (getD (x .start .now) (x .i .0) 0)) _ (getD (x .start .now) (x .i .0) 0) (getD (x .end .now) (x .i .0) 0) (c .before .before .before .before .before .pre .1 .0) (g .proper) (c .before .before .before .before .get-size .ensures)
+    ap (leb (x .size)) (e .1) ∙ fits-left (x .size) (up (x .order) (getD (x .start .now) (x .i .0) 0)) _ (getD (x .start .now) (x .i .0) 0) (getD (x .end .now) (x .i .0) 0) (at-start .pre .1 .0)
+    (g .proper) (at-get-size .get-size .ensures)
 
 pub fits-at-spec : {M : Type 1} → statement M
 fits-at-spec =

@@ -35,7 +35,10 @@ element-write-heads : tie.Need-element-write-heads
 element-write-heads c = search needs
 
 unlink-requires : tie.Need-unlink-requires
-unlink-requires c κs = let u = c .before .before .before .before .before .before .before .before .before .pre in u .1 .shelved .good _ (u .1 .member) .known
+unlink-requires c κs =
+    let back = c .before .before .before .before in
+    let at-start = back .before .before .before .before .before in
+    let u = at-start .pre in u .1 .shelved .good _ (u .1 .member) .known
 
 returns : tie.Need-returns
 returns c l u =

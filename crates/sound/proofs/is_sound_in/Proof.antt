@@ -23,13 +23,23 @@ chain-ok-requires : tie.Need-chain-ok-requires
 chain-ok-requires c κs = records-proper _ _ _ _ _ _ _ _ _ (sym (c .before .before .before .tally-records .ensures) ∙ c .before .tally .given .1)
 
 returns-2 : tie.Need-returns-2
-returns-2 c = sym (sound-of _ _ _ (sym (c .before .before .before .before .before .tally-records .ensures) ∙ c .before .before .before .tally .given .1) ∙ false-and _ _ (sym (c .before .chain-ok .ensures) ∙ not-true (c .before .chain-ok .result) (c .if1 .taken)))
+returns-2 c =
+    let at-tally = c .before .before .before in
+    let at-tally-records = at-tally .before .before in
+    sym (sound-of _ _ _ (sym (at-tally-records .tally-records .ensures) ∙ at-tally .tally .given .1) ∙ false-and _ _
+    (sym (c .before .chain-ok .ensures) ∙ not-true (c .before .chain-ok .result) (c .if1 .taken)))
 
 lists-ok-requires : tie.Need-lists-ok-requires
 lists-ok-requires c κs = records-proper _ _ _ _ _ _ _ _ _ (sym (c .before .before .before .before .before .tally-records .ensures) ∙ c .before .before .before .tally .given .1)
 
 returns-3 : tie.Need-returns-3
-returns-3 c = c .lists-ok .ensures ∙ sym (sound-of _ _ _ (sym (c .before .before .before .before .before .before .tally-records .ensures) ∙ c .before .before .before .before .tally .given .1) ∙ and-of _ _ (sym (c .before .before .chain-ok .ensures) ∙ not-false (c .before .before .chain-ok .result) (c .before .if1 .left)))
+returns-3 c =
+    let at-chain-ok = c .before .before in
+    let at-tally = at-chain-ok .before .before in
+    let at-tally-records = at-tally .before .before in
+    c .lists-ok .ensures ∙ sym
+    (sound-of _ _ _ (sym (at-tally-records .tally-records .ensures) ∙ at-tally .tally .given .1) ∙ and-of _ _
+    (sym (at-chain-ok .chain-ok .ensures) ∙ not-false (at-chain-ok .chain-ok .result) (c .before .if1 .left)))
 
 pub is-sound-in-spec : {M : Type 1} → statement M
 is-sound-in-spec =

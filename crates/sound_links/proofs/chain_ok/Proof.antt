@@ -14,7 +14,8 @@ use Rattle.sound_links.proofs.chain_ok.Statement.{statement}
 use Rattle.sound_links.proofs.chain_ok.Tie as tie
 
 abbrev Inv-loop : tie.InvT-loop
-Inv-loop total start end enabled previous next count before₀ cur₀ low₀ sum₀ left₀ before cur low sum left = ChainAt pool (cur₀ .0) start end enabled previous next count (before .0) (cur .0) low sum left
+Inv-loop total start end enabled previous next count before₀ cur₀ low₀ sum₀ left₀ before cur low sum left =
+    ChainAt pool (cur₀ .0) start end enabled previous next count (before .0) (cur .0) low sum left
 
 abbrev μ-loop : tie.MeasureT-loop
 μ-loop total start end enabled previous next count before₀ cur₀ low₀ sum₀ left₀ before cur low sum left = left
@@ -29,16 +30,22 @@ chain-step-requires : tie.Need-chain-step-requires Inv-loop μ-loop
 chain-step-requires c κs = search needs
 
 returns-2 : tie.Need-returns-2 Inv-loop μ-loop
-returns-2 c = sym (chain-breaks _ _ _ _ _ _ _ _ _ _ _ _ _ (c .before .before .before .before .before .loop .inv) _ (c .before .before .before .if1 .taken) (sym (c .before .chain-step .ensures) ∙ not-true (c .before .chain-step .result) (c .if3 .taken)))
+returns-2 c =
+    let at-if1 = c .before .before .before in
+    let at-loop = at-if1 .before .before in
+    sym (chain-breaks _ _ _ _ _ _ _ _ _ _ _ _ _ (at-loop .loop .inv) _ (at-if1 .if1 .taken) (sym (c .before .chain-step .ensures) ∙ not-true (c .before .chain-step .result) (c .if3 .taken)))
 
 -- in a turn that goes on, the record passes the test of the step
-stepped : (c : tie.Else3 Inv-loop μ-loop)
-    → chainStep pool (c .before .before .before .before .before .before .args .start .now) (c .before .before .before .before .before .before .args .enabled .now) (c .before .before .before .before .before .before .args .previous .now) (c .before .before .before .before .before .loop .before .0) (c .before .before .before .before .before .loop .low) (c .before .before .before .before .before .loop .cur .0) ≡ true
+stepped : (c : tie.Else3 Inv-loop μ-loop) → let x = c .before .before .before .before .before .before .args in let l = c .before .before .before .before .before .loop in
+    chainStep pool (x .start .now) (x .enabled .now) (x .previous .now) (l .before .0) (l .low) (l .cur .0) ≡ true
 stepped c = sym (c .before .chain-step .ensures) ∙ not-false (c .before .chain-step .result) (c .if3 .left)
 
-here : (c : tie.Else3 Inv-loop μ-loop)
-    → (c .before .before .before .before .before .loop .cur .0 < pool) × (c .before .before .before .before .before .loop .low ≤ getD (c .before .before .before .before .before .before .args .start .now) (c .before .before .before .before .before .loop .cur .0) 0) × (getD (c .before .before .before .before .before .before .args .start .now) (c .before .before .before .before .before .loop .cur .0) 0 ≤ getD (c .before .before .before .before .before .before .args .end .now) (c .before .before .before .before .before .loop .cur .0) 0) × (getD (c .before .before .before .before .before .before .args .end .now) (c .before .before .before .before .before .loop .cur .0) 0 < top)
-here c = passes pool (c .before .before .before .before .before .before .args .first .0) (c .before .before .before .before .before .before .args .start .now) (c .before .before .before .before .before .before .args .end .now) (c .before .before .before .before .before .before .args .enabled .now) (c .before .before .before .before .before .before .args .previous .now) (c .before .before .before .before .before .before .args .next .now) (c .before .before .before .before .before .before .args .count) (c .before .before .before .before .before .before .pre) _ _ _ (stepped c)
+here : (c : tie.Else3 Inv-loop μ-loop) → let x = c .before .before .before .before .before .before .args in let l = c .before .before .before .before .before .loop in
+    (l .cur .0 < pool) × (l .low ≤ getD (x .start .now) (l .cur .0) 0) × (getD (x .start .now) (l .cur .0) 0 ≤ getD (x .end .now) (l .cur .0) 0) × (getD (x .end .now) (l .cur .0) 0 < top)
+here c =
+    let at-start = c .before .before .before .before .before .before in
+    passes pool (at-start .args .first .0) (at-start .args .start .now) (at-start .args .end .now) (at-start .args .enabled .now) (at-start .args .previous .now) (at-start .args .next .now)
+    (at-start .args .count) (at-start .pre) _ _ _ (stepped c)
 
 size-at-requires : tie.Need-size-at-requires Inv-loop μ-loop
 size-at-requires c κs = let g = here c in (g .0, g .2, g .3)
@@ -71,7 +78,13 @@ loop-less : tie.Need-loop-less Inv-loop μ-loop
 loop-less c = let d = c .before .before .before .before .before .before .if2 .left in omega arith
 
 loop-again : tie.Need-loop-again Inv-loop μ-loop
-loop-again c = chain-goes _ _ _ _ _ _ _ _ _ _ _ _ _ (c .before .before .before .before .before .before .before .before .before .loop .inv) (c .before .before .before .before .before .before .before .before .before .before .pre) (c .before .before .before .before .before .before .if2 .left) (c .before .before .before .before .before .before .before .if1 .taken) (stepped (c .before .before .before .before)) _ (c .before .before .before .size-at .ensures)
+loop-again c =
+    let at-size-at = c .before .before .before in
+    let at-if2 = at-size-at .before .before .before in
+    let at-if1 = at-if2 .before in
+    let at-loop = at-if1 .before .before in
+    let at-start = at-loop .before in
+    chain-goes _ _ _ _ _ _ _ _ _ _ _ _ _ (at-loop .loop .inv) (at-start .pre) (at-if2 .if2 .left) (at-if1 .if1 .taken) (stepped (c .before .before .before .before)) _ (at-size-at .size-at .ensures)
 
 returns-3 : tie.Need-returns-3 Inv-loop μ-loop
 returns-3 c = sym (chain-ends _ _ _ _ _ _ _ _ _ _ _ _ _ (c .before .before .before .loop .inv) _ (c .before .if1 .left) ∙ false-and _ _ (ne-eqb _ _ (c .if4 .taken)))

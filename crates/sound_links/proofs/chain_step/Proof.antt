@@ -21,7 +21,10 @@ element-copy-out-result : tie.Need-element-copy-out-result
 element-copy-out-result c = follows-true _ _ _ _ _ (sym (c .before .before .follows .ensures) ∙ not-false (c .before .before .follows .result) (c .before .if1 .left)) .0
 
 returns-2 : tie.Need-returns-2
-returns-2 c = sym (chain-tested _ _ _ _ _ _ _ (sym (c .before .before .before .before .follows .ensures) ∙ not-false (c .before .before .before .before .follows .result) (c .before .before .before .if1 .left)))
+returns-2 c =
+    let at-if1 = c .before .before .before in
+    let at-follows = at-if1 .before in
+    sym (chain-tested _ _ _ _ _ _ _ (sym (at-follows .follows .ensures) ∙ not-false (at-follows .follows .result) (at-if1 .if1 .left)))
 
 pub chain-step-spec : {M : Type 1} → statement M
 chain-step-spec =

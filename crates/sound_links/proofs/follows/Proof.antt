@@ -18,7 +18,9 @@ element-copy-out-if2 c = search needs
 
 returns-2 : tie.Need-returns-2
 unfolding follows
-returns-2 c = rw (lt-ltb _ _ (c .before .before .if1 .left), not-true (getD (c .before .before .before .before .args .enabled .now) (c .before .before .before .before .args .i .0) false) (c .if2 .taken))
+returns-2 c =
+    let at-start = c .before .before .before .before in
+    rw (lt-ltb _ _ (c .before .before .if1 .left), not-true (getD (at-start .args .enabled .now) (at-start .args .i .0) false) (c .if2 .taken))
 
 mul-result : tie.Need-mul-result
 mul-result c = search needs
@@ -28,7 +30,10 @@ element-copy-out-result c = search needs
 
 returns-3 : tie.Need-returns-3
 unfolding follows
-returns-3 c = rw (lt-ltb _ _ (c .before .before .before .before .if1 .left), not-false (getD (c .before .before .before .before .before .before .args .enabled .now) (c .before .before .before .before .before .before .args .i .0) false) (c .before .before .if2 .left))
+returns-3 c =
+    let at-if1 = c .before .before .before .before in
+    let at-start = at-if1 .before .before in
+    rw (lt-ltb _ _ (at-if1 .if1 .left), not-false (getD (at-start .args .enabled .now) (at-start .args .i .0) false) (c .before .before .if2 .left))
 
 pub follows-spec : {M : Type 1} → statement M
 follows-spec =

@@ -18,13 +18,21 @@ size-at-requires c κs =
     (w .0, g .0, g .1)
 
 returns-2 : tie.Need-returns-2
-returns-2 c = sym (list-falls _ _ _ _ _ _ _ _ _ _ (sym (c .before .before .before .follows .ensures) ∙ not-false (c .before .before .before .follows .result) (c .before .before .if1 .left)) (c .before .size-at .ensures) (c .if2 .taken))
+returns-2 c =
+    let at-follows = c .before .before .before in
+    sym (list-falls _ _ _ _ _ _ _ _ _ _ (sym (at-follows .follows .ensures) ∙ not-false (at-follows .follows .result) (c .before .before .if1 .left)) (c .before .size-at .ensures) (c .if2 .taken))
 
 size-to-page-order-requires : tie.Need-size-to-page-order-requires
 size-to-page-order-requires c κs = search needs
 
 returns-3 : tie.Need-returns-3
-returns-3 c = sym (list-keyed _ _ _ _ _ _ _ _ _ _ _ (sym (c .before .before .before .before .before .before .follows .ensures) ∙ not-false (c .before .before .before .before .before .before .follows .result) (c .before .before .before .before .before .if1 .left)) (c .before .before .before .before .size-at .ensures) (c .before .before .before .if2 .left) (c .before .before .size-to-page-order .ensures .0))
+returns-3 c =
+    let at-if2 = c .before .before .before in
+    let at-size-at = at-if2 .before in
+    let at-if1 = at-size-at .before in
+    let at-follows = at-if1 .before in
+    sym (list-keyed _ _ _ _ _ _ _ _ _ _ _ (sym (at-follows .follows .ensures) ∙ not-false (at-follows .follows .result) (at-if1 .if1 .left)) (at-size-at .size-at .ensures) (at-if2 .if2 .left)
+    (c .before .before .size-to-page-order .ensures .0))
 
 pub list-step-spec : {M : Type 1} → statement M
 list-step-spec =

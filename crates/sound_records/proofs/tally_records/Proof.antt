@@ -66,10 +66,18 @@ record-ok-requires : tie.Need-record-ok-requires Inv-loop μ-loop
 record-ok-requires c κs = search needs
 
 returns : tie.Need-returns Inv-loop μ-loop
-returns c = sym (records-broken _ _ _ _ _ _ _ _ (c .before .before .before .before .before .before .before .before .before .before .loop .i) (c .before .before .before .before .before .before .before .before .before .loop-test .taken) (sym (c .before .record-ok .ensures) ∙ not-true (c .before .record-ok .result) (c .if1 .taken)))
+returns c =
+    let back = c .before .before .before .before in
+    let at-loop-test = back .before .before .before .before .before in
+    let at-loop = at-loop-test .before in
+    sym (records-broken _ _ _ _ _ _ _ _ (at-loop .loop .i) (at-loop-test .loop-test .taken) (sym (c .before .record-ok .ensures) ∙ not-true (c .before .record-ok .result) (c .if1 .taken)))
 
 one-more-if-requires : tie.Need-one-more-if-requires Inv-loop μ-loop
-one-more-if-requires c κs = omega (arith, c .before .before .before .before .before .before .before .before .before .before .loop .inv .2, count-at-most (used (c .before .before .before .before .before .before .before .before .before .before .before .args .enabled .now)) (c .before .before .before .before .before .before .before .before .before .before .loop .i))
+one-more-if-requires c κs =
+    let back = c .before .before .before .before .before in
+    let at-loop = back .before .before .before .before .before in
+    let at-start = at-loop .before in
+    omega (arith, at-loop .loop .inv .2, count-at-most (used (at-start .args .enabled .now)) (at-loop .loop .i))
 
 add-i : tie.Need-add-i Inv-loop μ-loop
 add-i c = search needs
@@ -79,10 +87,14 @@ loop-less c = search needs
 
 loop-again : tie.Need-loop-again Inv-loop μ-loop
 loop-again c =
-    let l = c .before .before .before .before .before .before .before .before .before .before .before .loop in
-    let on = used (c .before .before .before .before .before .before .before .before .before .before .before .before .args .enabled .now) in (
+    let at-record-ok = c .before .before in
+    let back = at-record-ok .before .before .before .before in
+    let at-loop = back .before .before .before .before .before in
+    let at-start = at-loop .before in
+    let l = at-loop .loop in
+    let on = used (at-start .args .enabled .now) in (
       omega arith,
-      rw (add-one (l .i)) (all-more _ (l .i) (l .inv .1) (sym (c .before .before .record-ok .ensures) ∙ not-false (c .before .before .record-ok .result) (c .before .if1 .left))),
+      rw (add-one (l .i)) (all-more _ (l .i) (l .inv .1) (sym (at-record-ok .record-ok .ensures) ∙ not-false (at-record-ok .record-ok .result) (c .before .if1 .left))),
       c .one-more-if .ensures ∙ ap (λ (m : ℕ). cond (on (l .i)) (suc m) m) (l .inv .2) ∙ sym (count-more on (l .i)) ∙ ap (check.count on) (sym (add-one (l .i))),
     )
 

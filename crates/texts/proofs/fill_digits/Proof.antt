@@ -38,8 +38,10 @@ loop-less c = omega arith
 loop-again : tie.Need-loop-again Inv-loop μ-loop
 loop-again c =
     let l = c .before .loop in
-    let s = some-digit (l .rest) in
-    (omega (arith, longer-by-one (l .rest) (omega arith)), (simp length-set (omega arith), (simp length-set (omega arith), put-before (l .i) (l .rest) (l .part) (omega arith) (omega arith) (omega arith) ∙ l .inv .1 .1 .1)))
+    let s = some-digit (l .rest) in (
+      omega (arith, longer-by-one (l .rest) (omega arith)),
+      (simp length-set (omega arith), (simp length-set (omega arith), put-before (l .i) (l .rest) (l .part) (omega arith) (omega arith) (omega arith) ∙ l .inv .1 .1 .1)),
+    )
 
 cast-part-2 : tie.Need-cast-part-2 Inv-loop μ-loop
 cast-part-2 c = omega arith

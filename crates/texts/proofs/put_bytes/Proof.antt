@@ -26,8 +26,13 @@ returns c =
 
 loop-holds : tie.Need-loop-holds Inv-loop μ-loop
 loop-holds c =
-    let s = c .before .before .before .before in
-    (omega arith, (with-room (s .args .text .now) (s .args .out .now) (s .args .at) _ _ (c .before .has-room .ensures) refl (c .if1 .left), (refl, paste-zero (s .args .out .now) (s .args .at) (s .args .text .now))))
+    let s = c .before .before .before .before in (
+      omega arith,
+      (
+        with-room (s .args .text .now) (s .args .out .now) (s .args .at) _ _ (c .before .has-room .ensures) refl (c .if1 .left),
+        (refl, paste-zero (s .args .out .now) (s .args .at) (s .args .text .now)),
+      ),
+    )
 
 shared-slice-read-out : tie.Need-shared-slice-read-out Inv-loop μ-loop
 shared-slice-read-out c = omega arith

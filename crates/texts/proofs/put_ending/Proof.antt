@@ -38,10 +38,12 @@ same-length c = search needs
 returns-2 : tie.Need-returns-2
 unfolding ending
 returns-2 c =
-    let e = c .before .before .before .before .before .before .before .before .before in
+    let at-put-number = c .before .before .before .before .before .before .before in
+    let e = at-put-number .before .before in
     let s = e .before .before .before .before in
-    let room = with-room (ending (s .args .n)) (s .args .out .now) (s .args .at) _ _ (e .before .has-room .ensures) (omega (arith, length-ending (s .args .n), e .before .before .width .ensures)) (e .if1 .left) in
-    put-then (digitsOf (s .args .n)) (10 ∷ []) (s .args .out .now) _ _ (s .args .at) _ _ room (c .before .before .before .before .before .before .before .put-number .ensures) (c .before .before .put-bytes .ensures)
+    let room = with-room (ending (s .args .n)) (s .args .out .now) (s .args .at) _ _ (e .before .has-room .ensures) (omega (arith, length-ending (s .args .n), e .before .before .width .ensures))
+    (e .if1 .left) in
+    put-then (digitsOf (s .args .n)) (10 ∷ []) (s .args .out .now) _ _ (s .args .at) _ _ room (at-put-number .put-number .ensures) (c .before .before .put-bytes .ensures)
 
 pub put-ending-spec : {M : Type 1} → statement M
 put-ending-spec =

@@ -57,13 +57,14 @@ same-length c = search needs
 
 returns-2 : tie.Need-returns-2
 returns-2 c =
-    let p = c .before .before .before .before .before .before .before .before .before .before .before in
+    let at-put-number = c .before .before .before .before .before .before .before in
+    let p = at-put-number .before .before .before .before in
     let e = p .before .before in
     let s = e .before .before .before .before .before .before in
     let room = with-room (s .args .word .now ++ rangeText (s .args .m) (s .args .n)) (s .args .out .now) (s .args .at) _ _ (e .before .has-room .ensures)
     (omega (arith, length-pair (s .args .word .now) (s .args .m) (s .args .n), e .before .before .before .width .ensures, e .before .before .width2 .ensures)) (e .if1 .left) in
     put-three (s .args .word .now) (digitsOf (s .args .m)) ((32 ∷ []) ++ ending (s .args .n)) (s .args .out .now) _ _ _ (s .args .at) _ _ _ room
-    (p .put-bytes .ensures) (c .before .before .before .before .before .before .before .put-number .ensures) (c .before .before .put-word .ensures)
+    (p .put-bytes .ensures) (at-put-number .put-number .ensures) (c .before .before .put-word .ensures)
 
 pub put-pair-spec : {M : Type 1} → statement M
 put-pair-spec =

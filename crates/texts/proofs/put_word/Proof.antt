@@ -38,11 +38,12 @@ same-length c = search needs
 
 returns-2 : tie.Need-returns-2
 returns-2 c =
+    let at-put-bytes = c .before .before .before .before .before .before in
     let e = c .before .before .before .before .before .before .before .before in
     let s = e .before .before .before .before .before in
     let room = with-room (s .args .word .now ++ ending (s .args .n)) (s .args .out .now) (s .args .at) _ _ (e .before .has-room .ensures)
     (omega (arith, length-word (s .args .word .now) (s .args .n), e .before .before .width .ensures)) (e .if1 .left) in
-    put-then (s .args .word .now) (ending (s .args .n)) (s .args .out .now) _ _ (s .args .at) _ _ room (c .before .before .before .before .before .before .put-bytes .ensures) (c .before .before .put-ending .ensures)
+    put-then (s .args .word .now) (ending (s .args .n)) (s .args .out .now) _ _ (s .args .at) _ _ room (at-put-bytes .put-bytes .ensures) (c .before .before .put-ending .ensures)
 
 pub put-word-spec : {M : Type 1} → statement M
 put-word-spec =

@@ -29,7 +29,8 @@ finish-call-requires c κs =
     let told = served .before in
     let read = told .before .before in
     let known = read .before .before in
-    call-finishes current (callOf (known .before .args .request)) _ _ _ (read .read-image .ensures) lawful-current (λ i b. known .slice-known .given i .fits) (told .enum-told .given .1) _ (served .serve-sound .ensures)
+    call-finishes current (callOf (known .before .args .request)) _ _ _ (read .read-image .ensures) lawful-current (λ i b. known .slice-known .given i .fits) (told .enum-told .given .1) _
+    (served .serve-sound .ensures)
 
 enum-told-2 : tie.Need-enum-told-2
 enum-told-2 c = search needs

@@ -36,7 +36,12 @@ read-be-requires-2 : tie.Need-read-be-requires-2
 read-be-requires-2 c κs = search needs
 
 returns-3 : tie.Need-returns-3
-returns-3 c = framed-rest current (c .before .before .before .before .before .before .before .before .args .image .now) (c .before .before .before .before .before .before .if1 .left) _ (c .before .before .before .before .read-be .ensures .0) (c .before .before .before .if2 .left) _ (c .before .read-be2 .ensures .0) (c .if3 .taken)
+returns-3 c =
+    let at-if2 = c .before .before .before in
+    let at-read-be = at-if2 .before in
+    let at-if1 = at-read-be .before .before in
+    let at-start = at-if1 .before .before in
+    framed-rest current (at-start .args .image .now) (at-if1 .if1 .left) _ (at-read-be .read-be .ensures .0) (at-if2 .if2 .left) _ (c .before .read-be2 .ensures .0) (c .if3 .taken)
 
 add-are-bits : tie.Need-add-are-bits
 add-are-bits c = omega arith
@@ -45,7 +50,13 @@ are-bits-requires : tie.Need-are-bits-requires
 are-bits-requires c κs = search needs
 
 returns-4 : tie.Need-returns-4
-returns-4 c = framed-bits current (c .before .before .before .before .before .before .before .before .before .args .image .now) (c .before .before .before .before .before .before .before .if1 .left) _ (c .before .before .before .before .before .read-be .ensures .0) (c .before .before .before .before .if2 .left) _ (c .before .before .read-be2 .ensures .0) _ (c .before .if3 .left) (c .are-bits .ensures)
+returns-4 c =
+    let at-if2 = c .before .before .before .before in
+    let at-read-be = at-if2 .before in
+    let at-if1 = at-read-be .before .before in
+    let at-start = at-if1 .before .before in
+    framed-bits current (at-start .args .image .now) (at-if1 .if1 .left) _ (at-read-be .read-be .ensures .0) (at-if2 .if2 .left) _ (c .before .before .read-be2 .ensures .0) _
+    (c .before .if3 .left) (c .are-bits .ensures)
 
 pub is-framed-spec : {M : Type 1} → statement M
 is-framed-spec =

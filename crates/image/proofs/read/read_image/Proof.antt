@@ -14,13 +14,21 @@ is-sound-requires : tie.Need-is-sound-requires
 is-sound-requires c κs = tt
 
 returns : tie.Need-returns
-returns c = read-done current _ _ (c .before .before .before .before .is-framed .ensures) (c .before .before .before .if1 .taken) _ (c .before .before .state-in .ensures) _ (c .before .is-sound .ensures) (c .if2 .taken)
+returns c =
+    let at-if1 = c .before .before .before in
+    let at-is-framed = at-if1 .before in
+    read-done current _ _ (at-is-framed .is-framed .ensures) (at-if1 .if1 .taken) _ (c .before .before .state-in .ensures) _ (c .before .is-sound .ensures) (c .if2 .taken)
 
 refusal-requires : tie.Need-refusal-requires
 refusal-requires c κs = tt
 
 returns-2 : tie.Need-returns-2
-returns-2 c = c .refusal .ensures ∙ read-unsound current _ _ (c .before .before .before .before .before .is-framed .ensures) (c .before .before .before .before .if1 .taken) _ (c .before .before .before .state-in .ensures) _ (c .before .before .is-sound .ensures) (c .before .if2 .left)
+returns-2 c =
+    let at-state-in = c .before .before .before in
+    let at-if1 = at-state-in .before in
+    let at-is-framed = at-if1 .before in
+    c .refusal .ensures ∙ read-unsound current _ _ (at-is-framed .is-framed .ensures) (at-if1 .if1 .taken) _ (at-state-in .state-in .ensures) _ (c .before .before .is-sound .ensures)
+    (c .before .if2 .left)
 
 refusal-requires-2 : tie.Need-refusal-requires-2
 refusal-requires-2 c κs = tt

@@ -103,7 +103,12 @@ slice-aggregate-read-links-4 : tie.Need-slice-aggregate-read-links-4
 slice-aggregate-read-links-4 c = search needs
 
 read-links-requires-4 : tie.Need-read-links-requires-4
-read-links-requires-4 c κs = λ i h. omega (arith, c .before .before .before .before .before .before .before .before .before .before .before .before .before .before .before .before .before .before .before .before .before .before .before .before .before .pre)
+read-links-requires-4 c κs =
+    let back = c .before .before .before .before .before .before .before .before in
+    let back2 = back .before .before .before .before .before .before .before .before in
+    let back3 = back2 .before .before .before .before in
+    let at-start = back3 .before .before .before .before .before in
+    λ i h. omega (arith, at-start .pre)
 
 add-read-links-6 : tie.Need-add-read-links-6
 add-read-links-6 c = omega arith
@@ -118,7 +123,12 @@ slice-aggregate-read-links-5 : tie.Need-slice-aggregate-read-links-5
 slice-aggregate-read-links-5 c = search needs
 
 read-links-requires-5 : tie.Need-read-links-requires-5
-read-links-requires-5 c κs = λ i h. omega (arith, c .before .before .before .before .before .before .before .before .before .before .before .before .before .before .before .before .before .before .before .before .before .before .before .before .before .before .before .before .pre)
+read-links-requires-5 c κs =
+    let back = c .before .before .before .before .before .before .before .before in
+    let back2 = back .before .before .before .before .before .before .before .before in
+    let back3 = back2 .before .before .before .before .before .before in
+    let at-start = back3 .before .before .before .before .before .before in
+    λ i h. omega (arith, at-start .pre)
 
 returns : tie.Need-returns
 unfolding stateIn

@@ -89,9 +89,12 @@ loop-less c = omega arith
 
 loop-again : tie.Need-loop-again Inv-loop μ-loop
 loop-again c =
-    let l = c .before .before .before .before .before .before .before .before .before .before .before .before .loop in
+    let back = c .before .before .before .before .before .before in
+    let at-loop = back .before .before .before .before .before .before in
+    let l = at-loop .loop in
     let at = recordsAt current + recordSize current * l .i in
-    lay-next _ (recordsAt current) (recordSize current) pool (l .i) _ (l .image) _ at (at + recordSize current - at) refl (omega arith) (omega arith) (length-record current _) (c .before .before .write-record .ensures) (l .inv)
+    lay-next _ (recordsAt current) (recordSize current) pool (l .i) _ (l .image) _ at (at + recordSize current - at) refl (omega arith) (omega arith) (length-record current _)
+    (c .before .before .write-record .ensures) (l .inv)
 
 same-length : tie.Need-same-length Inv-loop μ-loop
 same-length c = omega arith

@@ -29,11 +29,14 @@ same-length c = search needs
 returns : tie.Need-returns
 unfolding imageOf
 returns c =
+    let back = c .before .before .before .before .before .before in
+    let headed = back .before .before .before .before .before .before .before in
     let records = c .before .before .write-records in
-    let headed = c .before .before .before .before .before .before .before .before .before .before .before .before .before in
-    let start = headed .before .before .before .before .before .before .before .before .before .before .before .before .args in
+    let lent = headed .before .before .before .before .before .before in
+    let start = lent .before .before .before .before .before .before .args in
     let s = start .s in
-    put-both (start .image .now) (headed .write-head .last .0) (records .last .0) (headBytes current (s .«free_size») (s .«first_entry» .0) (s .«free_list»)) (joined pool 0 (λ i. recordBytes current (entryAt s i))) (recordsAt current) (omega arith) (headed .write-head .kept .0) (headed .write-head .ensures) (records .ensures)
+    put-both (start .image .now) (headed .write-head .last .0) (records .last .0) (headBytes current (s .«free_size») (s .«first_entry» .0) (s .«free_list»))
+    (joined pool 0 (λ i. recordBytes current (entryAt s i))) (recordsAt current) (omega arith) (headed .write-head .kept .0) (headed .write-head .ensures) (records .ensures)
 
 pub write-state-spec : {M : Type 1} → statement M
 write-state-spec =

@@ -35,8 +35,10 @@ enum-told c = search needs
 
 returns : tie.Need-returns Inv-loop μ-loop
 returns c =
-    let l = c .before .before .before .before .before .loop in
-    sym (after-refused (c .before .before .before .before .before .before .before .args .field .now) (l .i) (l .n) (omega arith) (sym (c .before .before .with-digit .ensures) ∙ c .enum-told .given .1)) ∙ l .inv .1 .1
+    let at-loop = c .before .before .before .before .before in
+    let at-start = at-loop .before .before in
+    let l = at-loop .loop in
+    sym (after-refused (at-start .args .field .now) (l .i) (l .n) (omega arith) (sym (c .before .before .with-digit .ensures) ∙ c .enum-told .given .1)) ∙ l .inv .1 .1
 
 add-i : tie.Need-add-i Inv-loop μ-loop
 add-i c = omega arith
@@ -46,8 +48,11 @@ loop-less c = omega arith
 
 loop-again : tie.Need-loop-again Inv-loop μ-loop
 loop-again c =
-    let l = c .before .before .before .before .before .before .loop in
-    let h = after-taken (c .before .before .before .before .before .before .before .before .args .field .now) (l .i) (l .n) (omega arith) _ (sym (c .before .before .before .with-digit .ensures) ∙ c .before .more .given .1) in
+    let at-with-digit = c .before .before .before in
+    let at-loop = at-with-digit .before .before .before in
+    let at-start = at-loop .before .before in
+    let l = at-loop .loop in
+    let h = after-taken (at-start .args .field .now) (l .i) (l .n) (omega arith) _ (sym (at-with-digit .with-digit .ensures) ∙ c .before .more .given .1) in
     (omega arith, (h .0, sym (h .1) ∙ l .inv .1 .1))
 
 returns-2 : tie.Need-returns-2 Inv-loop μ-loop

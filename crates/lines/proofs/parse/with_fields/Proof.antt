@@ -53,7 +53,8 @@ returns-4 c =
     let b = c .before .before .before in
     let a = b .before .before .before .before .before in
     let s = a .before .before .before .before in
-    c .with-two .ensures ∙ sym (two-numbers (s .args .letter) (s .args .line .now) (s .args .at) _ _ (sym (a .before .before .field-at .ensures) ∙ a .x .given .1) (b .before .before .before .if1 .left)
+    c .with-two .ensures ∙ sym
+    (two-numbers (s .args .letter) (s .args .line .now) (s .args .at) _ _ (sym (a .before .before .field-at .ensures) ∙ a .x .given .1) (b .before .before .before .if1 .left)
     _ _ (sym (b .before .before .field-at2 .ensures) ∙ b .y .given .1) (c .before .if2 .taken))
 
 add-field-at-2 : tie.Need-add-field-at-2
@@ -85,8 +86,10 @@ returns-6 c =
     let b = d .before .before .before .before .before in
     let a = b .before .before .before .before .before in
     let s = a .before .before .before .before in
-    c .with-three .ensures ∙ sym (three-numbers (s .args .letter) (s .args .line .now) (s .args .at) _ _ (sym (a .before .before .field-at .ensures) ∙ a .x .given .1) (b .before .before .before .if1 .left)
-    _ _ (sym (b .before .before .field-at2 .ensures) ∙ b .y .given .1) (d .before .before .before .if2 .left) _ _ (sym (d .before .before .field-at3 .ensures) ∙ d .z .given .1) (c .before .if3 .taken))
+    c .with-three .ensures ∙ sym
+    (three-numbers (s .args .letter) (s .args .line .now) (s .args .at) _ _ (sym (a .before .before .field-at .ensures) ∙ a .x .given .1) (b .before .before .before .if1 .left)
+    _ _ (sym (b .before .before .field-at2 .ensures) ∙ b .y .given .1) (d .before .before .before .if2 .left) _ _ (sym (d .before .before .field-at3 .ensures) ∙ d .z .given .1)
+    (c .before .if3 .taken))
 
 returns-7 : tie.Need-returns-7
 returns-7 c =

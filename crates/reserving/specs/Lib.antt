@@ -1,0 +1,2 @@
+-- What the contract of a search with its move cites.
+pub mod Piece
