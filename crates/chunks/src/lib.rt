@@ -6,6 +6,7 @@ use state::MemoryAllocator;
 ghost use Prim.Native.Nat.{_+_, _<_, _≤_};
 ghost use lib.ListN.{length};
 ghost use Rattle.state.specs.Shown.{pool};
+ghost use Rattle.state.specs.Lent.{was, is};
 ghost use Rattle.chunks.specs.Input.{Told, ends, joined, between, Joins, Ready, Rests, Steps, Hears, Closes};
 
 // The state; how many bytes of the carry belong to the line that has not ended; the next place in the chunk; the next in the output.
@@ -19,7 +20,7 @@ pub struct Reading {
 // The bytes of the chunk from `from` to `to` join the held ones, as far as the carry goes.
 fn hold(carry: &mut [u8], held: usize, chunk: &[u8], from: usize, to: usize) -> usize
     requires { ⌜ (held ≤ length (now carry)) × (from ≤ to) × (to ≤ length (now chunk)) ⌝ }
-    ensures { λ r. ⌜ Joins (between from to (now (chunk .entry))) (now (carry .entry)) held (now (carry .exit)) r ⌝ }
+    ensures { λ r. ⌜ Joins (between from to (was chunk)) (was carry) held (is carry) r ⌝ }
 {
     let mut count = held;
     let mut i = from;
@@ -37,7 +38,7 @@ fn hold(carry: &mut [u8], held: usize, chunk: &[u8], from: usize, to: usize) -> 
 // The line that the newline at `end` ends is answered.
 fn answer_ended(r: Reading, carry: &mut [u8], chunk: &[u8], end: usize, out: &mut [u8]) -> Reading
     requires { ⌜ Ready pool r (now carry) (now out) × (r .from ≤ end) × (end < length (now chunk)) ⌝ }
-    ensures { λ r′. ⌜ Steps (λ (t : Told). ends pool (joined t (between (r .from) end (now (chunk .entry))))) (end + 1) r (now (carry .entry)) (now (out .entry)) r′ (now (carry .exit)) (now (out .exit)) ⌝ }
+    ensures { λ r′. ⌜ Steps (λ (t : Told). ends pool (joined t (between (r .from) end (was chunk)))) (end + 1) r (was carry) (was out) r′ (is carry) (is out) ⌝ }
 {
     let held = hold(carry, r.held, chunk, r.from, end);
     let answered = answer_line(r.state, &carry[..held], out, r.at);
@@ -53,7 +54,7 @@ fn answer_ended(r: Reading, carry: &mut [u8], chunk: &[u8], end: usize, out: &mu
 // The rest of the chunk ends no line.
 fn hold_rest(r: Reading, carry: &mut [u8], chunk: &[u8]) -> Reading
     requires { ⌜ (r .held ≤ length (now carry)) × (r .from ≤ length (now chunk)) ⌝ }
-    ensures { λ r′. ⌜ Rests (between (r .from) (length (now (chunk .entry))) (now (chunk .entry))) (length (now (chunk .entry))) r (now (carry .entry)) r′ (now (carry .exit)) ⌝ }
+    ensures { λ r′. ⌜ Rests (between (r .from) (length (was chunk)) (was chunk)) (length (was chunk)) r (was carry) r′ (is carry) ⌝ }
 {
     let end = chunk.len();
     let held = hold(carry, r.held, chunk, r.from, end);
@@ -69,7 +70,7 @@ fn hold_rest(r: Reading, carry: &mut [u8], chunk: &[u8]) -> Reading
 // The next line of the chunk is answered; where no line ends in it any more, the rest is held.
 pub fn answer_next(r: Reading, carry: &mut [u8], chunk: &[u8], out: &mut [u8]) -> Reading
     requires { ⌜ Ready pool r (now carry) (now out) × (r .from < length (now chunk)) ⌝ }
-    ensures { λ r′. ⌜ Hears pool r (now (carry .entry)) (now (chunk .entry)) (now (out .entry)) r′ (now (carry .exit)) (now (out .exit)) ⌝ }
+    ensures { λ r′. ⌜ Hears pool r (was carry) (was chunk) (was out) r′ (is carry) (is out) ⌝ }
 {
     let from = r.from;
     match find_newline(chunk, from, chunk.len()) {
@@ -81,7 +82,7 @@ pub fn answer_next(r: Reading, carry: &mut [u8], chunk: &[u8], out: &mut [u8]) -
 // The input has ended: what is held is a line too, unless it is nothing. The place after its answer.
 pub fn answer_last(r: Reading, carry: &[u8], out: &mut [u8]) -> usize
     requires { ⌜ Ready pool r (now carry) (now out) ⌝ }
-    ensures { λ at. ⌜ Closes pool r (now (carry .entry)) (now (out .entry)) at (now (out .exit)) ⌝ }
+    ensures { λ at. ⌜ Closes pool r (was carry) (was out) at (is out) ⌝ }
 {
     let held = r.held;
     if held == 0 {

@@ -21,7 +21,8 @@ handed-by r k e w out h v =
     record { reading = refl; hands = record { whole = λ f. v .whole f ∙ size; part = λ f. (let p = v .part f in omega arith) }; count = refl; ended = refl }
 
 module _ (n : ℕ) (s : Session) (carry out : List ℕ) (s′ : Session) (out′ : List ℕ) where
-  pub closed-by : (r : Reading) (at : ℕ) → r ≡ fresh (s .reading) 0 → Closes n r carry out at out′ → Handed (record { state = r .state; held = r .held; from = 0; at = at }) 0 true s′ → Closed n s carry out s′ out′
+  pub closed-by : (r : Reading) (at : ℕ) → r ≡ fresh (s .reading) 0 → Closes n r carry out at out′
+      → Handed (record { state = r .state; held = r .held; from = 0; at = at }) 0 true s′ → Closed n s carry out s′ out′
   closed-by r at e w h =
       record {
         closes = rw (h .reading) (subst (λ (q : Reading). Closes n q carry out at out′) e w);
@@ -33,7 +34,8 @@ module _ (n : ℕ) (s : Session) (carry out : List ℕ) (s′ : Session) (out′
         ended = h .ended;
       }
 
-  pub answered-by : (chunk carry′ : List ℕ) (r next : Reading) → r ≡ fresh (s .reading) (s .reading .from) → Hears n r carry (take (s .count) chunk) out next carry′ out′ → Handed next (s .count) false s′ → Answered n s carry chunk out s′ carry′ out′
+  pub answered-by : (chunk carry′ : List ℕ) (r next : Reading) → r ≡ fresh (s .reading) (s .reading .from) → Hears n r carry (take (s .count) chunk) out next carry′ out′
+      → Handed next (s .count) false s′ → Answered n s carry chunk out s′ carry′ out′
   answered-by chunk carry′ r next e w h =
       record {
         hears = rw (h .reading) (subst (λ (q : Reading). Hears n q carry (take (s .count) chunk) out next carry′ out′) e w);

@@ -41,8 +41,8 @@ module _ (n : ℕ) (carry₀ chunk₀ out₀ : List ℕ) where
       })
 
   module _ (s : Session) (carry chunk out : List ℕ) (more : ℕ) (g : Going n carry₀ chunk₀ out₀ s carry chunk out more) where
-    pub going-on : (s′ : Session) (carry′ chunk′ out′ : List ℕ) → goesOn s ≡ true → 0 < more → length carry′ ≡ length carry → length chunk′ ≡ length chunk → length out′ ≡ length out
-        → Turned n s carry chunk out s′ carry′ chunk′ out′ → Going n carry₀ chunk₀ out₀ s′ carry′ chunk′ out′ (more - 1)
+    pub going-on : (s′ : Session) (carry′ chunk′ out′ : List ℕ) → goesOn s ≡ true → 0 < more
+        → length carry′ ≡ length carry → length chunk′ ≡ length chunk → length out′ ≡ length out → Turned n s carry chunk out s′ carry′ chunk′ out′ → Going n carry₀ chunk₀ out₀ s′ carry′ chunk′ out′ (more - 1)
     going-on s′ carry′ chunk′ out′ on h c d e w =
         let t = g .turns in
         record {

@@ -14,6 +14,7 @@ use streams::write_all;
 ghost use Prim.Native.Nat.{_<_, _≤_};
 ghost use lib.ListN.{length};
 ghost use Rattle.state.specs.Shown.{pool};
+ghost use Rattle.state.specs.Lent.{was, is};
 ghost use Rattle.answering.specs.Script.{room};
 ghost use Rattle.chunks.specs.Input.{kept, Ready};
 ghost use Rattle.sessions.specs.Sessions.{fresh, Prepared, Answered, Closed, Turned};
@@ -45,7 +46,7 @@ fn hand_over(r: Reading, count: usize, ended: bool, out: &[u8]) -> Session
 // The next lines of the chunk are answered.
 fn answer_more(s: Session, carry: &mut [u8], chunk: &[u8], out: &mut [u8]) -> Session
     requires { ⌜ Prepared pool s (now carry) (now chunk) (now out) × (s .reading .from < s .count) ⌝ }
-    ensures { λ s′. ⌜ Answered pool s (now (carry .entry)) (now (chunk .entry)) (now (out .entry)) s′ (now (carry .exit)) (now (out .exit)) ⌝ }
+    ensures { λ s′. ⌜ Answered pool s (was carry) (was chunk) (was out) s′ (is carry) (is out) ⌝ }
 {
     let reading = s.reading;
     let count = s.count;
@@ -57,7 +58,7 @@ fn answer_more(s: Session, carry: &mut [u8], chunk: &[u8], out: &mut [u8]) -> Se
 // The input has ended: a line that no newline ends is answered too.
 fn close(s: Session, carry: &[u8], out: &mut [u8]) -> Session
     requires { ⌜ Ready pool (fresh (s .reading) 0) (now carry) (now out) ⌝ }
-    ensures { λ s′. ⌜ Closed pool s (now (carry .entry)) (now (out .entry)) s′ (now (out .exit)) ⌝ }
+    ensures { λ s′. ⌜ Closed pool s (was carry) (was out) s′ (is out) ⌝ }
 {
     let reading = s.reading;
     let r = afresh(reading, 0);
@@ -75,7 +76,7 @@ fn close(s: Session, carry: &[u8], out: &mut [u8]) -> Session
 // Reads once. Where the input has ended, the session closes.
 fn read_more(s: Session, carry: &[u8], chunk: &mut [u8], out: &mut [u8]) -> Session
     requires { ⌜ Ready pool (fresh (s .reading) 0) (now carry) (now out) × (s .count ≤ s .reading .from) ⌝ }
-    ensures { λ s′. ⌜ Turned pool s (now (carry .entry)) (now (chunk .entry)) (now (out .entry)) s′ (now (carry .entry)) (now (chunk .exit)) (now (out .exit)) ⌝ }
+    ensures { λ s′. ⌜ Turned pool s (was carry) (was chunk) (was out) s′ (was carry) (is chunk) (is out) ⌝ }
 {
     let read = read_some(
         STDIN_FILENO,
@@ -95,7 +96,7 @@ fn read_more(s: Session, carry: &[u8], chunk: &mut [u8], out: &mut [u8]) -> Sess
 // What is left of the chunk is answered before more is read.
 fn turn(s: Session, carry: &mut [u8], chunk: &mut [u8], out: &mut [u8]) -> Session
     requires { ⌜ Prepared pool s (now carry) (now chunk) (now out) ⌝ }
-    ensures { λ s′. ⌜ Turned pool s (now (carry .entry)) (now (chunk .entry)) (now (out .entry)) s′ (now (carry .exit)) (now (chunk .exit)) (now (out .exit)) ⌝ }
+    ensures { λ s′. ⌜ Turned pool s (was carry) (was chunk) (was out) s′ (is carry) (is chunk) (is out) ⌝ }
 {
     let reading = s.reading;
     if reading.from < s.count {
@@ -107,7 +108,7 @@ fn turn(s: Session, carry: &mut [u8], chunk: &mut [u8], out: &mut [u8]) -> Sessi
 // A proved loop has to end, and nothing says that an input does: the turns are more than any run takes.
 fn answer_all(carry: &mut [u8], chunk: &mut [u8], out: &mut [u8]) -> Session
     requires { ⌜ (kept ≤ length (now carry)) × (room pool ≤ length (now out)) ⌝ }
-    ensures { λ s. ⌜ Over pool s (now (carry .exit)) (now (chunk .exit)) (now (out .exit)) ⌝ }
+    ensures { λ s. ⌜ Over pool s (is carry) (is chunk) (is out) ⌝ }
 {
     let mut session = begun();
     let mut turns = u64::MAX;

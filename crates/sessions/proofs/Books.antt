@@ -82,10 +82,13 @@ module _ (n : ℕ) (l : List ℕ) (s : Session) (carry : List ℕ) (h : Tells (t
   quiet-shows from out = record { state = h .state; part = h .part; room = omega arith; text = refl }
 
   module _ (chunk out : List ℕ) (s′ : Session) (carry′ out′ : List ℕ) where
-    answered-tells : (a : Answered n s carry chunk out s′ carry′ out′) → (Tells (toldOf n (l ++ between (s .reading .from) (s′ .reading .from) (take (s .count) chunk))) (s′ .reading) carry′)
-        × (take (s′ .reading .at) out′ ≡ heard n (quiet t) (between (s .reading .from) (s′ .reading .from) (take (s .count) chunk)) .text)
+    -- what the turn heard
+    abbrev part : List ℕ
+    part = between (s .reading .from) (s′ .reading .from) (take (s .count) chunk)
+
+    answered-tells : (a : Answered n s carry chunk out s′ carry′ out′) → (Tells (toldOf n (l ++ part)) (s′ .reading) carry′) × (take (s′ .reading .at) out′ ≡ heard n (quiet t) part .text)
     answered-tells a =
-        let m = between (s .reading .from) (s′ .reading .from) (take (s .count) chunk) in
+        let m = part in
         let w = a .hears .steps .shows (quiet t) (quiet-shows (s .reading .from) out) in
         let e = heard-text n (t .state) (t .part) [] (t .text) m in
         let f = heard-append n (silent (stateOf n empty)) l m in
@@ -99,7 +102,11 @@ module _ (n : ℕ) (read handed : List ℕ) (s : Session) (carry chunk out : Lis
   handed-so-far = b .hands ∙ ap (λ (z : Bool). cond z (outputOf n l) (toldOf n l .text)) (going s on)
 
   module _ (s′ : Session) (carry′ chunk′ out′ : List ℕ) where
-    after-answer : s .reading .from < s .count → chunk′ ≡ chunk → Answered n s carry chunk out s′ carry′ out′ → Told-so-far n (read ++ piece s s′ chunk′) (handed ++ take (s′ .reading .at) out′) s′ carry′ chunk′
+    -- what was told after the turn to s′
+    abbrev Next : Type 0
+    Next = Told-so-far n (read ++ piece s s′ chunk′) (handed ++ take (s′ .reading .at) out′) s′ carry′ chunk′
+
+    after-answer : s .reading .from < s .count → chunk′ ≡ chunk → Answered n s carry chunk out s′ carry′ out′ → Next
     after-answer h f a =
         let m = between (s .reading .from) (s′ .reading .from) (take (s .count) chunk) in
         let w = answered-tells n l s carry (b .tells) chunk out s′ carry′ out′ a in
@@ -108,7 +115,8 @@ module _ (n : ℕ) (read handed : List ℕ) (s : Session) (carry chunk out : Lis
         let g : left s′ chunk′ ≡ drop (s′ .reading .from) (take (s .count) chunk) = rw (a .count, f) in
         record {
           heard-bytes = l ++ m;
-          reads = r ∙ b .reads ∙ ap (λ (x : List ℕ). l ++ x) (drop-part (s .reading .from) (s′ .reading .from) (take (s .count) chunk) (omega arith)) ∙ sym (append-assoc l m (drop (s′ .reading .from) (take (s .count) chunk))) ∙ ap (λ (x : List ℕ). (l ++ m) ++ x) (sym g);
+          reads = r ∙ b .reads ∙ ap (λ (x : List ℕ). l ++ x) (drop-part (s .reading .from) (s′ .reading .from) (take (s .count) chunk) (omega arith))
+              ∙ sym (append-assoc l m (drop (s′ .reading .from) (take (s .count) chunk))) ∙ ap (λ (x : List ℕ). (l ++ m) ++ x) (sym g);
           tells = w .0;
           rest = λ e. true-false (sym e ∙ a .ended);
           hands = ap (λ (x : List ℕ). x ++ take (s′ .reading .at) out′) handed-so-far ∙ ap (λ (x : List ℕ). toldOf n l .text ++ x) (w .1) ∙ sym (heard-quiet n (toldOf n l) m)
@@ -118,7 +126,7 @@ module _ (n : ℕ) (read handed : List ℕ) (s : Session) (carry chunk out : Lis
     none-left : s .count ≤ s .reading .from → read ≡ l
     none-left h = b .reads ∙ ap (λ (x : List ℕ). l ++ x) (drop-past (s .count) (s .reading .from) chunk h) ∙ append-nil l
 
-    after-read : s .count ≤ s .reading .from → carry′ ≡ carry → Took s s′ chunk′ → Told-so-far n (read ++ piece s s′ chunk′) (handed ++ take (s′ .reading .at) out′) s′ carry′ chunk′
+    after-read : s .count ≤ s .reading .from → carry′ ≡ carry → Took s s′ chunk′ → Next
     after-read h f a =
         let e : piece s s′ chunk′ ≡ take (s′ .count) chunk′ = rw (le-ltb (s .reading .from) (s .count) h) in
         let g : left s′ chunk′ ≡ take (s′ .count) chunk′ = rw (a .reading) in
@@ -130,7 +138,7 @@ module _ (n : ℕ) (read handed : List ℕ) (s : Session) (carry chunk out : Lis
           hands = rw (a .reading, a .ended) (append-nil handed ∙ handed-so-far);
         }
 
-    after-end : s .count ≤ s .reading .from → carry′ ≡ carry → Closed n s carry out s′ out′ → Told-so-far n (read ++ piece s s′ chunk′) (handed ++ take (s′ .reading .at) out′) s′ carry′ chunk′
+    after-end : s .count ≤ s .reading .from → carry′ ≡ carry → Closed n s carry out s′ out′ → Next
     after-end h f a =
         let e : piece s s′ chunk′ ≡ [] = rw (le-ltb (s .reading .from) (s .count) h, a .count) in
         let g : left s′ chunk′ ≡ [] = rw (a .from, a .count) in
@@ -140,11 +148,11 @@ module _ (n : ℕ) (read handed : List ℕ) (s : Session) (carry chunk out : Lis
           reads = ap (λ (x : List ℕ). x ++ piece s s′ chunk′) (none-left h) ∙ ap (λ (x : List ℕ). l ++ x) (e ∙ sym g);
           tells = rw f (record { state = a .state ∙ b .tells .state; part = rw (a .held) (b .tells .part) });
           rest = λ x. g;
-          hands = ap (λ (x : List ℕ). x ++ take (s′ .reading .at) out′) handed-so-far ∙ ap (λ (x : List ℕ). t .text ++ x) (a .closes .text (quiet t) (quiet-shows n l s carry (b .tells) 0 out))
-              ∙ sym (closed-quiet n t (t .part)) ∙ rw (a .ended);
+          hands = ap (λ (x : List ℕ). x ++ take (s′ .reading .at) out′) handed-so-far
+              ∙ ap (λ (x : List ℕ). t .text ++ x) (a .closes .text (quiet t) (quiet-shows n l s carry (b .tells) 0 out)) ∙ sym (closed-quiet n t (t .part)) ∙ rw (a .ended);
         }
 
-    after-turn : Turned n s carry chunk out s′ carry′ chunk′ out′ → Told-so-far n (read ++ piece s s′ chunk′) (handed ++ take (s′ .reading .at) out′) s′ carry′ chunk′
+    after-turn : Turned n s carry chunk out s′ carry′ chunk′ out′ → Next
     after-turn (made.answered h f a) = after-answer h f a
     after-turn (made.took h f a) = after-read h f a
     after-turn (made.closed h f a) = after-end h f a
@@ -154,12 +162,19 @@ module _ (n : ℕ) (read handed : List ℕ) (s : Session) (carry chunk out : Lis
 begins : (n : ℕ) (carry chunk : List ℕ) → Told-so-far n [] [] (begin n) carry chunk
 unfolding heard
 begins n carry chunk =
-    record { heard-bytes = []; reads = refl; tells = record { state = refl; part = record { within = omega arith; bytes = sym (take-nil (length carry)) } }; rest = λ e. true-false (sym e); hands = refl }
+    record {
+      heard-bytes = [];
+      reads = refl;
+      tells = record { state = refl; part = record { within = omega arith; bytes = sym (take-nil (length carry)) } };
+      rest = λ e. true-false (sym e);
+      hands = refl;
+    }
 
 -- What was read so far determines, byte by byte, what has been handed to the writer so far.
 pub so-far : (n k : ℕ) (read handed : List ℕ) (s : Session) (carry chunk out : List ℕ) → Run n k read handed s carry chunk out → Told-so-far n read handed s carry chunk
 so-far n _ _ _ _ _ _ _ (starts carry chunk out) = begins n carry chunk
-so-far n _ _ _ _ _ _ _ (turns k read handed s carry chunk out s′ carry′ chunk′ out′ r e w) = after-turn n read handed s carry chunk out (so-far n k read handed s carry chunk out r) e s′ carry′ chunk′ out′ w
+so-far n _ _ _ _ _ _ _ (turns k read handed s carry chunk out s′ carry′ chunk′ out′ r e w) =
+    after-turn n read handed s carry chunk out (so-far n k read handed s carry chunk out r) e s′ carry′ chunk′ out′ w
 
 -- Once the input has ended, it is the whole output.
 pub all-answered : (n k : ℕ) (read handed : List ℕ) (s : Session) (carry chunk out : List ℕ) → Run n k read handed s carry chunk out → s .ended ≡ true → handed ≡ outputOf n read
@@ -177,7 +192,8 @@ always-beginning n k read handed s carry chunk out r e rest =
     let m = left s chunk ++ rest in
     let t = toldOf n l in
     let u = heard n t m in
-    let all : toldOf n (read ++ rest) ≡ u = ap (toldOf n) (ap (λ (x : List ℕ). x ++ rest) (b .reads) ∙ append-assoc l (left s chunk) rest) ∙ heard-append n (silent (stateOf n empty)) l m in (
+    let bytes : read ++ rest ≡ l ++ m = ap (λ (x : List ℕ). x ++ rest) (b .reads) ∙ append-assoc l (left s chunk) rest in
+    let all : toldOf n (read ++ rest) ≡ u = ap (toldOf n) bytes ∙ heard-append n (silent (stateOf n empty)) l m in (
       heard n (quiet t) m .text ++ textOfAll n (quiet u),
       ap (textOfAll n) all ∙ closed-quiet n u (u .part) ∙ ap (λ (x : List ℕ). x ++ textOfAll n (quiet u)) (heard-quiet n t m) ∙ append-assoc (t .text) (heard n (quiet t) m .text) (textOfAll n (quiet u))
           ∙ ap (λ (x : List ℕ). x ++ (heard n (quiet t) m .text ++ textOfAll n (quiet u))) (sym (b .hands ∙ ap (λ (z : Bool). cond z (outputOf n l) (t .text)) e)),

@@ -24,7 +24,8 @@ module _ (n : ℕ) (chunk : List ℕ) where
       let e : r .from - r .from ≡ 0 = omega arith in
       record { onward = omega arith; within = w; out-size = refl; steps = record { place = refl; size = refl; held = h; room = k; shows = λ t s. rw e s } }
 
-  pub hears-goes : (r : Reading) (carry out : List ℕ) (r′ : Reading) (carry′ out′ : List ℕ) → length out′ ≡ length out → Hears n r carry chunk out r′ carry′ out′ → Goes n r carry chunk out r′ carry′ out′
+  pub hears-goes : (r : Reading) (carry out : List ℕ) (r′ : Reading) (carry′ out′ : List ℕ) → length out′ ≡ length out
+      → Hears n r carry chunk out r′ carry′ out′ → Goes n r carry chunk out r′ carry′ out′
   hears-goes r carry out r′ carry′ out′ e h = let on = h .onward in record { onward = omega arith; within = h .within; out-size = e; steps = h .steps }
 
   module _ (r : Reading) (carry out : List ℕ) (r′ : Reading) (carry′ out′ : List ℕ) (r″ : Reading) (carry″ out″ : List ℕ) where

@@ -26,7 +26,8 @@ module _ (n : ℕ) (s : Session) (carry chunk out : List ℕ) where
     pub took-none : (s′ : Session) → s′ ≡ restart s 0 true → Turned n s carry chunk out s′ carry chunk′ out′
     took-none s′ e = rw e (took heard refl (record { reading = refl; within = omega arith; some = λ x. true-false x; none = λ x. refl; ended = refl }))
 
-  module _ (p : Prepared n s carry chunk out) (s′ : Session) (carry′ chunk′ out′ : List ℕ) (c : length carry′ ≡ length carry) (d : length chunk′ ≡ length chunk) (e : length out′ ≡ length out) where
+  module _ (p : Prepared n s carry chunk out) (s′ : Session) (carry′ chunk′ out′ : List ℕ)
+      (c : length carry′ ≡ length carry) (d : length chunk′ ≡ length chunk) (e : length out′ ≡ length out) where
     next : s′ .reading .held ≤ length carry → s′ .count ≤ length chunk → Prepared n s′ carry′ chunk′ out′
     next h k =
         let x = p .carries in

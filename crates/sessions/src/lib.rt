@@ -7,6 +7,7 @@ ghost use mathlib.Core.Path.{_≡_};
 ghost use Prim.Native.Nat.{_<_};
 ghost use lib.ListN.{length};
 ghost use Rattle.state.specs.Shown.{pool};
+ghost use Rattle.state.specs.Lent.{was, is};
 ghost use Rattle.chunks.specs.Input.{Ready, Hears};
 ghost use Rattle.sessions.specs.Sessions.{begin, goesOn, fresh, restart};
 
@@ -80,7 +81,7 @@ pub fn restarted(s: Session, count: usize, failed: bool) -> Session
 // As many lines of the chunk are answered as the output is sure to have room for.
 pub fn answer_part(r: Reading, carry: &mut [u8], chunk: &[u8], out: &mut [u8]) -> Reading
     requires { ⌜ Ready pool r (now carry) (now out) × (r .from < length (now chunk)) ⌝ }
-    ensures { λ r′. ⌜ Hears pool r (now (carry .entry)) (now (chunk .entry)) (now (out .entry)) r′ (now (carry .exit)) (now (out .exit)) ⌝ }
+    ensures { λ r′. ⌜ Hears pool r (was carry) (was chunk) (was out) r′ (is carry) (is out) ⌝ }
 {
     let mut reading = answer_next(r, carry, chunk, out);
     while reading.from < chunk.len() && has_room(out.len(), reading.at) {

@@ -27,16 +27,23 @@ turn-requires : tie.Need-turn-requires Inv-loop μ-loop
 turn-requires c κs = c .before .before .before .before .before .before .loop .inv .prepared
 
 sub-turns : tie.Need-sub-turns Inv-loop μ-loop
-sub-turns c = let t = c .before .before .before .before .before .before in omega (arith, ltb-true 0 (t .before .before .before .before .before .before .before .loop .turns) (t .before .before .before .before .if2 .taken))
+sub-turns c =
+    let t = c .before .before .before .before .before .before in
+    let m = t .before .before .before .before in
+    omega (arith, ltb-true 0 (m .before .before .before .loop .turns) (m .if2 .taken))
 
 loop-less : tie.Need-loop-less Inv-loop μ-loop
-loop-less c = let t = c .before .before .before .before .before .before in omega (arith, ltb-true 0 (t .before .before .before .before .before .before .before .loop .turns) (t .before .before .before .before .if2 .taken))
+loop-less c =
+    let t = c .before .before .before .before .before .before in
+    let m = t .before .before .before .before in
+    omega (arith, ltb-true 0 (m .before .before .before .loop .turns) (m .if2 .taken))
 
 loop-again : tie.Need-loop-again Inv-loop μ-loop
 loop-again c =
     let t = c .before .before .before .before .before .before in
-    let g = t .before .before .before .before .before .before in
-    going-on pool _ _ _ _ _ _ _ _ (g .before .loop .inv) _ _ _ _ (sym (g .goes-on .ensures) ∙ t .before .before .before .before .before .if1 .taken) (ltb-true 0 _ (t .before .before .before .before .if2 .taken))
+    let m = t .before .before .before .before in
+    let g = m .before .before in
+    going-on pool _ _ _ _ _ _ _ _ (g .before .loop .inv) _ _ _ _ (sym (g .goes-on .ensures) ∙ m .before .if1 .taken) (ltb-true 0 _ (m .if2 .taken))
     (t .turn .kept .1 .0) (t .turn .kept .1 .1 .0) (t .turn .kept .1 .1 .1 .0) (t .turn .ensures)
 
 same-length : tie.Need-same-length Inv-loop μ-loop

@@ -21,7 +21,8 @@ same-length c = search needs
 
 returns : tie.Need-returns
 returns c =
-    let s = c .before .before .before .before .before .before .before .before .before .before in
+    let r = c .before .before .before .before in
+    let s = r .before .before .before .before .before .before in
     took-none pool _ _ _ _ _ _ (s .pre .1) _ (c .restarted .ensures)
 
 close-requires : tie.Need-close-requires
@@ -36,7 +37,8 @@ same-length-3 c = search needs
 returns-2 : tie.Need-returns-2
 returns-2 c =
     let e = c .before .before in
-    let s = e .before .before .before .before .before .before .before .before .before .before .before .before in
+    let r = e .before .before .before .before .before .before in
+    let s = r .before .before .before .before .before .before in
     closed (s .pre .1) refl (e .close .ensures)
 
 restarted-requires-2 : tie.Need-restarted-requires-2
