@@ -1,18 +1,22 @@
 // Rounding, and the list of a size.
 use state::Address;
+use state::LISTS;
 use state::ListIndex;
 ghost use mathlib.Core.Path.{_≡_};
 ghost use Prim.Native.Nat.{_+_, _-_, _<_, _≤_};
 ghost use Rattle.rules.specs.Rules.{sizeLists, top, down, up, listNumber};
 
-// The list number of a size: the least k from 0 with size <= 4096 * 2^k, but never above 11.
+// The number of the last list, which takes every size that is too large for the others.
+const LAST_LIST: u8 = LISTS as u8 - 1;
+
+// The list number of a size: the least k from 0 with size <= 4096 * 2^k, but never above the last list.
 pub fn size_to_page_order(size: u64) -> ListIndex
     ensures { λ r. ⌜ r .0 ≡ listNumber size ⌝ }
     ensures { λ r. ⌜ r .0 < sizeLists ⌝ }
 {
     let mut k: u8 = 0;
     let mut limit: u64 = 4096;
-    while k < 11 {
+    while k < LAST_LIST {
         if size <= limit {
             return ListIndex(k);
         }

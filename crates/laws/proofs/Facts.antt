@@ -16,6 +16,7 @@ use Rattle.laws.proofs.HandBack.{pass}
 
 -- ---- list numbers
 
+-- document 01's figures
 pub list-numbers : map listNumber (1 ∷ 4096 ∷ 4097 ∷ 8192 ∷ 4194304 ∷ 4194305 ∷ 9223372036854775808 ∷ []) ≡ 0 ∷ 0 ∷ 1 ∷ 1 ∷ 10 ∷ 11 ∷ 11 ∷ []
 unfolding listNumber least
 list-numbers = refl
@@ -34,14 +35,14 @@ least-no-less (suc k) j z i h = if (leb z (4096 * 2 ^ j)) (λ x. i < x → 4096 
       | inr e ↦ let d = neq j i e in least-no-less k (suc j) z i (omega arith) g
     ])
 
--- the least k from 0 with size <= 4096 * 2^k, but never above 11
-pub list-number-fits : (z : ℕ) → listNumber z < 11 → z ≤ 4096 * 2 ^ listNumber z
+-- the least k from 0 with size <= 4096 * 2^k, but never above the last list
+pub list-number-fits : (z : ℕ) → listNumber z < sizeLists - 1 → z ≤ 4096 * 2 ^ listNumber z
 unfolding listNumber
-list-number-fits z h = least-fits 11 0 z h
+list-number-fits z h = least-fits (sizeLists - 1) 0 z h
 
 pub list-number-least : (z i : ℕ) → i < listNumber z → 4096 * 2 ^ i < z
 unfolding listNumber
-list-number-least z i h = least-no-less 11 0 z i (omega arith) h
+list-number-least z i h = least-no-less (sizeLists - 1) 0 z i (omega arith) h
 
 -- both at once: the number is k or less exactly where the size is within list k's
 pub list-number-within : (z k : ℕ) → k < sizeLists - 1 → (listNumber z ≤ k) ↔ (z ≤ 4096 * 2 ^ k)

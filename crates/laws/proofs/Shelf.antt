@@ -1,4 +1,4 @@
--- The shelf: what the free bytes settle of it, and that it is the twelve lists joined. Assumes nothing.
+-- The shelf: what the free bytes settle of it, and that it is the size lists joined. Assumes nothing.
 use mathlib.Core.Path.{_≡_, refl, sym, _∙_, ap, subst}
 use mathlib.Core.Logic.{_≢_, inl, inr, _↔_}
 use mathlib.Core.Bool.{Bool, true, false, cond}
@@ -95,7 +95,7 @@ same-shelf n b c s t e =
     ∙ same-tally (λ r. f (span r)) (c .chain) (c .shelf) (t .once) (t .once-shelf) (t .same)))) in
     (same-sizes (b .shelf) (c .shelf) (s .sizes) (t .sizes) (λ v. all (λ p. eqb v (suc (p .1) - p .0))), all)
 
--- ---- the twelve lists, joined in order, are the shelf
+-- ---- the size lists, joined in order, are the shelf
 
 least-ge : (k j z : ℕ) → j ≤ least k j z
 unfolding least
@@ -146,12 +146,12 @@ comes-first j (suc k) r l h g f = if (eqb (num r) j) (λ m. m ++ lists (suc j) k
     (λ t. ap (λ (m : List Range). r ∷ (ofList j l ++ m)) (not-among (suc j) k r l (omega (arith, eqb→eq (num r) j t))))
     (λ t. let d = neq (num r) j t in rw (no-such j l (λ q i. omega (arith, f q i))) (comes-first (suc j) k r l (omega arith) (omega arith) f))
 
-pub twelve : (l : List Range) → Pairwise Smaller l → lists 0 sizeLists l ≡ l
+pub all-lists : (l : List Range) → Pairwise Smaller l → lists 0 sizeLists l ≡ l
 unfolding lists ofList
-twelve [] h = refl
-twelve (r ∷ l) h = comes-first 0 sizeLists r l (omega arith) (omega (arith, num-lt r)) (λ q i. list-number-mono (size r) (size q) (h .0 q i)) ∙ ap (λ (m : List Range). r ∷ m) (twelve l (h .1))
+all-lists [] h = refl
+all-lists (r ∷ l) h = comes-first 0 sizeLists r l (omega arith) (omega (arith, num-lt r)) (λ q i. list-number-mono (size r) (size q) (h .0 q i)) ∙ ap (λ (m : List Range). r ∷ m) (all-lists l (h .1))
 
--- ---- one list of the twelve: what a placing and a removal do to it
+-- ---- one of the size lists: what a placing and a removal do to it
 
 pub ofList-in : (k : ℕ) (l : List Range) (q : Range) → In q (ofList k l) → In q l
 unfolding ofList

@@ -1,4 +1,4 @@
--- The twelve lists of the paragraph as one family, joined.
+-- The size lists of the paragraph as one family, joined.
 use Prim.Native.Nat.{ℕ, _<_, _≤_}
 use mathlib.Core.Bool.{Bool, true}
 use mathlib.Core.Logic.{_≢_, ⊎-elim}

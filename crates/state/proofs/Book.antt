@@ -9,7 +9,7 @@ use Rattle.lists.specs.Links.{none, head, after, Listed, has, tab}
 use Rattle.lists.proofs.Laws.{follow-walk, length-listed}
 use Rattle.rules.specs.Rules.{sizeLists, Range, Book, ofList, lists}
 use Rattle.rules.specs.Sound.{Sound}
-use Rattle.laws.proofs.Shelf.{twelve, ofList-in}
+use Rattle.laws.proofs.Shelf.{all-lists, ofList-in}
 use Rattle.state.specs.Shown.{numbers, at, Stand}
 use Rattle.state.specs.State.{Holds, stateOf}
 use Rattle.state.specs.Sound.{led, joinedLists, bookOf, SoundState}
@@ -56,7 +56,7 @@ module _ (n : ℕ) (small : n ≤ none) (b : Book) (s : MemoryAllocator) (h : Ho
   unfolding bookOf
   holds-book =
       let heads = by-tab 0 sizeLists (s .«free_list») _ (h .shape .shelved .heads-length) (h .shape .shelved .firsts) in
-      let shelf = ap (joinedLists n s) heads ∙ lists-back sizeLists 0 ∙ twelve (b .shelf) (h .shape .sound .sizes) in
+      let shelf = ap (joinedLists n s) heads ∙ lists-back sizeLists 0 ∙ all-lists (b .shelf) (h .shape .sound .sizes) in
       (λ i. record { chain = chain-back i; shelf = shelf i })
 
   pub holds-sound : SoundState n s

@@ -8,7 +8,7 @@ use lib.ListN.{getD}
 use Rattle.lists.specs.Links.{steps}
 use Rattle.rules.specs.Rules.{Range, find, fits, ofList, lists}
 use Rattle.rules.specs.Sound.{Good}
-use Rattle.laws.proofs.Shelf.{twelve}
+use Rattle.laws.proofs.Shelf.{all-lists}
 use Rattle.state.specs.Shown.{pool, at, Shelved, Walked}
 use Rattle.rules.specs.Rules.{sizeLists}
 use Rattle.links.specs.Hits.{hitOf}
@@ -46,7 +46,7 @@ search-holds c =
       omega (arith, own .1),
       refl,
       λ l prev t.
-          ap (find (fits (x .size) (x .order))) (sym (twelve l (t .sizes)))
+          ap (find (fits (x .size) (x .order))) (sym (all-lists l (t .sizes)))
           ∙ from-own (x .size) (x .order) l (λ r m. t .good r m .proper) _ (omega (arith, own .0)) (omega (arith, own .1)),
     )
 
