@@ -1,2 +1,3 @@
--- Laws of rounding.
+-- Laws of rounding and of list numbers.
 pub mod Rounding
+pub mod Zeros

@@ -6,24 +6,27 @@ ghost use mathlib.Core.Path.{_≡_};
 ghost use Prim.Native.Nat.{_+_, _-_, _<_, _≤_};
 ghost use Rattle.rules.specs.Rules.{sizeLists, top, down, up, listNumber};
 
-// The number of the last list, which takes every size that is too large for the others.
-const LAST_LIST: u8 = LISTS as u8 - 1;
+// A page has 4096 bytes, and 4095 has 52 leading zeros.
+const PAGE: u64 = 4096;
 
-// The list number of a size: the least k from 0 with size <= 4096 * 2^k, but never above the last list.
+const PAGE_ZEROS: u32 = 52;
+
+const LAST_LIST: u32 = LISTS as u32 - 1;
+
+// The list number of a size: the least k from 0 with size <= 4096 * 2^k, but never above the last list. Where the size is more
+// than a page, the size less one has k leading zeros fewer than 4095.
 pub fn size_to_page_order(size: u64) -> ListIndex
     ensures { λ r. ⌜ r .0 ≡ listNumber size ⌝ }
     ensures { λ r. ⌜ r .0 < sizeLists ⌝ }
 {
-    let mut k: u8 = 0;
-    let mut limit: u64 = 4096;
-    while k < LAST_LIST {
-        if size <= limit {
-            return ListIndex(k);
-        }
-        k = k + 1;
-        limit = limit * 2;
+    if size <= PAGE {
+        return ListIndex(0);
     }
-    ListIndex(k)
+    let k = PAGE_ZEROS - u64::leading_zeros(size - 1);
+    if k > LAST_LIST {
+        return ListIndex(LAST_LIST as u8);
+    }
+    ListIndex(k as u8)
 }
 
 // The greatest multiple of 2^order that is at most x.

@@ -21,12 +21,12 @@ pub list-numbers : map listNumber (1 ∷ 4096 ∷ 4097 ∷ 8192 ∷ 4194304 ∷ 
 unfolding listNumber least
 list-numbers = refl
 
-least-fits : (k j z : ℕ) → least k j z < j + k → z ≤ 4096 * 2 ^ least k j z
+pub least-fits : (k j z : ℕ) → least k j z < j + k → z ≤ 4096 * 2 ^ least k j z
 unfolding least
 least-fits zero j z = λ h. absurd (omega arith)
 least-fits (suc k) j z = if (leb z (4096 * 2 ^ j)) (λ x. x < j + suc k → z ≤ 4096 * 2 ^ x) (λ t h. leb→le z (4096 * 2 ^ j) t) (λ t h. least-fits k (suc j) z (omega arith))
 
-least-no-less : (k j z i : ℕ) → j ≤ i → i < least k j z → 4096 * 2 ^ i < z
+pub least-no-less : (k j z i : ℕ) → j ≤ i → i < least k j z → 4096 * 2 ^ i < z
 unfolding least
 least-no-less zero j z i h = λ g. absurd (omega arith)
 least-no-less (suc k) j z i h = if (leb z (4096 * 2 ^ j)) (λ x. i < x → 4096 * 2 ^ i < z) (λ t g. absurd (omega arith))

@@ -102,7 +102,7 @@ unfolding least
 least-ge zero j z = omega arith
 least-ge (suc k) j z = if (leb z (4096 * 2 ^ j)) (λ x. j ≤ x) (λ t. omega arith) (λ t. omega (arith, least-ge k (suc j) z))
 
-least-le : (k j z : ℕ) → least k j z ≤ j + k
+pub least-le : (k j z : ℕ) → least k j z ≤ j + k
 unfolding least
 least-le zero j z = omega arith
 least-le (suc k) j z = if (leb z (4096 * 2 ^ j)) (λ x. x ≤ j + suc k) (λ t. omega arith) (λ t. omega (arith, least-le k (suc j) z))
