@@ -3,8 +3,8 @@
 #   keep_module CRATE             proves CRATE and leaves its module as text in target/module/CRATE/x86_64.ll, and the words
 #                                 that Rattle gave its clang beside it
 #   retarget CRATE                leaves the same for Arm in target/module/CRATE/aarch64.ll
-#   compile CRATE MACHINE TEXT OBJECT
-#                                 compiles such a text by the words kept for CRATE, for x86_64 or aarch64
+#   compile CRATE MACHINE TEXT OBJECT [WORD..]
+#                                 compiles such a text by the words kept for CRATE and those named, for x86_64 or aarch64
 #   pack ARCHIVE OBJECT..         makes an archive
 # $work is a folder that is gone at the end.
 #
@@ -84,7 +84,7 @@ compile() {
     esac
   done <"target/module/$1/words"
   [ "$2" != aarch64 ] || words=("${bare[@]}" "${words[@]}")
-  "$clang" "${words[@]}" -x ir "$3" -o "$4"
+  "$clang" "${words[@]}" "${@:5}" -x ir "$3" -o "$4"
 }
 
 pack() {
