@@ -57,7 +57,8 @@ module _ (P₁ P₂ P₃ : Passed) where
       walk : ent 𝓤 (Before Ps f 𝓤 H A W κ q b o γ h a) (WpFn 𝓤 H C Λ (code Ps g) (vptr b o ∷ P₁ .val m ∷ P₂ .val n ∷ P₃ .val p ∷ []) (After Ps f 𝓤 H A W κ q b o γ h a))
       walk =
           qed W ((‵ (flft κ q) ⊛ ‵ ftrue) ∷ ‵ (owns (MutRef (named 0) κ T.the-row ∷ rows Ps) (record { ptr = (b, o); name = γ; now = h }, a) at) ∷ []) ∵ enter ! C Λ (code Ps g) (vptr b o ∷ P₁ .val m ∷ P₂ .val n ∷ P₃ .val p ∷ []) _ $
-          alloc1 ! (λ l0. alloc1 ! (λ l1. alloc1 ! (λ l2. alloc1 ! (λ l3. alloc1 ! (λ l4. alloc1 ! (λ l5. alloc1 ! (λ l6. alloc0 ! $ params1 ! $ pass1 ! (init ! 10 refl (tt, tt)) $ pass1 ! (init ! 8 refl (P₁ .typed 𝓤 H A W m m-is)) $ pass1 ! (init ! 6 refl (P₂ .typed 𝓤 H A W n n-is)) $ pass1 ! (init ! 4 refl (P₃ .typed 𝓤 H A W p p-is)) $ pass0 ! $
+          alloc1 ! (λ l0. alloc1 ! (λ l1. alloc1 ! (λ l2. alloc1 ! (λ l3. alloc1 ! (λ l4. alloc1 ! (λ l5. alloc1 ! (λ l6. alloc0 ! $ params1 ! $ pass1 ! (init ! 10 refl (tt, tt)) $
+          pass1 ! (init ! 8 refl (P₁ .typed 𝓤 H A W m m-is)) $ pass1 ! (init ! 6 refl (P₂ .typed 𝓤 H A W n n-is)) $ pass1 ! (init ! 4 refl (P₃ .typed 𝓤 H A W p p-is)) $ pass0 ! $
           -- the borrow is opened
           move ! (15 ∷ []) $ fsplit ! $ fsplit3 ! $ drop ! $ move ! (17 ∷ []) $ split ! $ move ! (2 ∷ 3 ∷ 0 ∷ []) $
           opens ! tt T.the-row {h = h} b o (λ vs. spelt ! T.the-row (Is T.the-row) (shows 𝓤 H A T.the-row) (LL.vals T.the-type T′.the-laws) (LL.tells T.the-type T′.the-laws) fullShare h vs b o $
@@ -66,7 +67,8 @@ module _ (P₁ P₂ P₃ : Passed) where
           assigns ! (of-opd ! (load ! (from ! (hop ! (look ! 16 refl) (stop !))) (look-raw ! 0 refl))) (from ! (stop !)) (init ! 6 refl (typed Ps f 𝓤 H A W h is)) $
           use0 W (raw (Core Ps f 𝓤 H A .pre (to-core Ps f 𝓤 H A W h a))) (goes-core Ps f 𝓤 H A W h a is are) $
           calls-at ! fm (Core Ps f 𝓤 H A) known (to-core Ps f 𝓤 H A W h a) (and-then ! (load ! (from ! (stop !)) (look ! 7 refl)) (and-then ! (load ! (from ! (stop !)) (look ! 15 refl)) (and-then ! (load ! (from ! (stop !)) (look ! 13 refl)) (and-then ! (load ! (from ! (stop !)) (look ! 11 refl)) (no-more !))))) (λ w.
-          use1 W (later (some (λ (r : Outcome). (‵ ftrue ⊛ ‵ (O.the-row .own r (w ∷ []))) ⊛ raw (ensured 𝓤 H A (core-ended Ps) (core-clauses Ps f 𝓤) tt (h, a) tt r)))) (id⊢ 𝓤 _) $ await ! tt $ pick ! (λ r.
+          use1 W (later (some (λ (r : Outcome). (‵ ftrue ⊛ ‵ (O.the-row .own r (w ∷ []))) ⊛ raw (ensured 𝓤 H A (core-ended Ps) (core-clauses Ps f 𝓤) tt (h, a) tt r)))) (id⊢ 𝓤 _) $
+          await ! tt $ pick ! (λ r.
           split ! $ move ! (1 ∷ []) $ use1 W (raw (fact 𝓤 (r ≡ f h a))) (said-of Ps f 𝓤 H A h a r) $ heard ! (r ≡ f h a) (λ e. split ! $ drop ! $
           peeks ! O.the-row (Is O.the-row) (shows 𝓤 H A O.the-row) r (w ∷ []) (λ got. drop ! $
           land ! (from ! (stop !)) (init ! 8 refl (LL.lawful O.the-type O′.the-laws 𝓤 H A W .typed r _ got .0)) $
@@ -74,10 +76,12 @@ module _ (P₁ P₂ P₃ : Passed) where
           assigns ! (of-opd ! (load ! (from ! (fld ! refl (stop !))) (look-in ! 8 (sub ! 1 refl (whole !))))) (from ! (hop ! (look ! 16 refl) (stop !))) (store-raw ! 0 refl (typed Ps f 𝓤 H A W (r .state) (state-is r w got))) $
           assigns ! (of-opd ! (load ! (from ! (fld ! refl (stop !))) (look-in ! 8 (sub ! 0 refl (whole !))))) (from ! (stop !)) (init ! 18 refl (EL.lawful N.the-type N′.the-laws 𝓤 H A W tt .typed (r .answer) _ (answer-is r w got) .0)) $
           -- the borrow is closed, at the core's state
-          owned ! T.the-row (Is T.the-row) (LL.makes T.the-type T′.the-plain 𝓤 H A) (r .state) _ (state-is r w got) $ move ! (1 ∷ 0 ∷ []) $ closes ! tt T.the-row (r .state) (val (r .state) ∷ []) b o $
+          owned ! T.the-row (Is T.the-row) (LL.makes T.the-type T′.the-plain 𝓤 H A) (r .state) _ (state-is r w got) $ move ! (1 ∷ 0 ∷ []) $
+          closes ! tt T.the-row (r .state) (val (r .state) ∷ []) b o $
           -- [obs; the borrow; the token; true; the values'; then the locals, the last at 5]
           returns ! (look ! 17 refl) $ forget ! 5 refl $ forget ! 7 refl $ forget ! 9 refl $ forget ! 11 refl $ forget ! 13 refl $ forget ! 15 refl $ forget ! 17 refl $
-          move ! (17 ∷ 18 ∷ []) $ free1 ! $ move ! (15 ∷ 16 ∷ []) $ free1 ! $ move ! (13 ∷ 14 ∷ []) $ free1 ! $ move ! (11 ∷ 12 ∷ []) $ free1 ! $ move ! (9 ∷ 10 ∷ []) $ free1 ! $ move ! (7 ∷ 8 ∷ []) $ free1 ! $ move ! (5 ∷ 6 ∷ []) $ free1 ! $ free0 ! $
+          move ! (17 ∷ 18 ∷ []) $ free1 ! $ move ! (15 ∷ 16 ∷ []) $ free1 ! $ move ! (13 ∷ 14 ∷ []) $ free1 ! $ move ! (11 ∷ 12 ∷ []) $ free1 ! $ move ! (9 ∷ 10 ∷ []) $ free1 ! $
+          move ! (7 ∷ 8 ∷ []) $ free1 ! $ move ! (5 ∷ 6 ∷ []) $ free1 ! $ free0 ! $
           keep ! (0 ∷ 1 ∷ 2 ∷ []) $ by ! (exits Ps f 𝓤 H A W κ q b o γ h a are r e (answer-is r w got)))))))))))))))
 
     pub door-meets : (𝓣 : Tables 𝓤 H) → Triple 𝓤 (𝓣 .C g) (Core Ps f 𝓤 H A) → Door Ps f 𝓤 H A (𝓣 .C) (𝓣 .Λ) g
