@@ -91,8 +91,10 @@ def held(project, page):
 
 
 def _public(project, crate):
-    """The functions that a crate gives to others: those of lib.rt and of its public modules, and what it hands on."""
+    """The functions that a crate gives to others: those of lib.rt and of its public modules, and what it hands on. A program gives none."""
     source = project / "crates" / crate / "src"
+    if not (source / "lib.rt").is_file():
+        return []
     lib = (source / "lib.rt").read_text("utf-8")
     texts = [lib] + [(source / f"{name}.rt").read_text("utf-8") for name in re.findall(r"^pub mod (\w+);", lib, re.M)]
     own = [name for text in texts for name in re.findall(r'^pub (?:extern "C" )?fn (\w+)', text, re.M)]
