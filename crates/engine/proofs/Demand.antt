@@ -100,7 +100,7 @@ module _ {n : ℕ} {e : Engine} (f : Follows n e) where
   abbrev pub first : Stands (e .new)
   first = record { held = empty; good = empty-sound n; of = f .begins }
 
-  left-stands : (cs : List Call) → Stands (left e cs)
+  pub left-stands : (cs : List Call) → Stands (left e cs)
   left-stands cs = stands-after (e .new) cs first
 
   first-free : (x : ℕ) → freeIn e (e .new) x ≡ false

@@ -24,15 +24,19 @@ whole-keeps n d [] h = tt
 whole-keeps n d (c ∷ cs) h = (λ b s e. whole-moves d n b c s e (h .0), whole-keeps n d cs (h .1))
 
 module _ {n : ℕ} {e : Engine} (f : Follows n e) (d : ℕ) where
-  module _ (s : e .State) (h : Stands f s) (blocks : Blocks d (e .book s)) (c : Call) (keeps : Keeps n d c) where
-    held-blocks : Blocks d (h .held)
+  module _ (s : e .State) (h : Stands f s) (blocks : Blocks d (e .book s)) where
+    pub held-blocks : Blocks d (h .held)
     held-blocks = subst (Blocks d) (book-is f s h) blocks
 
-    pub answer-moves : Moves d (e .answer c s)
-    answer-moves = subst (Moves d) (sym (answer-is f s h c)) (keeps (h .held) (h .good) held-blocks)
+    module _ (c : Call) (keeps : Keeps n d c) where
+      moved : Moves d (voucher c (step n c (h .held)))
+      moved = keeps (h .held) (h .good) held-blocks
 
-    next-blocks : Blocks d (e .book (e .next c s))
-    next-blocks = subst (Blocks d) (sym (book-is f (e .next c s) (stands-next f c s h))) (step-blocks d n (h .held) c (h .good) (keeps (h .held) (h .good) held-blocks) held-blocks)
+      pub answer-moves : Moves d (e .answer c s)
+      answer-moves = subst (Moves d) (sym (answer-is f s h c)) moved
+
+      next-blocks : Blocks d (e .book (e .next c s))
+      next-blocks = subst (Blocks d) (sym (book-is f (e .next c s) (stands-next f c s h))) (step-blocks d n (h .held) c (h .good) moved held-blocks)
 
   after-blocks : (s : e .State) → Stands f s → Blocks d (e .book s) → (cs : List Call) → Each (Keeps n d) cs → Blocks d (e .book (after e s cs))
   unfolding after
