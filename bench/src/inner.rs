@@ -25,21 +25,21 @@ struct State {
     list_next: [u16; POOL],
 }
 
-/// `answers::Answer`: 0 and an address, or the number of a refusal.
+/// `calls::Answer`: 0 and an address, or the number of a refusal.
 #[repr(C)]
 struct Answer {
     number: u8,
     address: u64,
 }
 
-/// `memory_allocator::Outcome`.
+/// `calls::Outcome`.
 #[repr(C)]
 struct Outcome {
     answer: Answer,
     state: State,
 }
 
-/// `requests::Request`: 0 allocate, 1 reserve, 2 free, and the call's numbers in its own order.
+/// `calls::Request`: 0 allocate, 1 reserve, 2 free, and the call's numbers in its own order.
 #[repr(C)]
 struct Request {
     kind: u8,

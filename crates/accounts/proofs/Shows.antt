@@ -13,10 +13,10 @@ use Rattle.soundness.proofs.Exact.{passes-sound}
 use Rattle.chain.specs.Chain.{Ordered}
 use Rattle.listing.specs.Listing as in-place
 use Rattle.listing.specs.declared.Listed.{Listed}
-use Rattle.answers.specs.declared.Answer.the-variants.{InvalidEntry}
-use Rattle.answers.proofs.Endings.{chain-ordered}
+use Rattle.calls.specs.declared.Answer.the-variants.{InvalidEntry}
+use Rattle.chain.proofs.Held.{chain-ordered}
 use Rattle.accounts.specs.Accounts.{counted, refused, totalOf, listedAnswer, listingOf, shownOf, Lists}
-use Rattle.accounts.specs.declared.Counted.{Counted}
+use Rattle.calls.specs.declared.Counted.{Counted}
 
 module _ (n : ℕ) (small : n ≤ none) (s : MemoryAllocator) where
   pub ordered : Sized n s → isSound n s ≡ true → Ordered n (bookOf n s .chain) (s .start) (s .end) (s .next) (s .«first_entry» .0)

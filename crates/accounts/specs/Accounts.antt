@@ -12,9 +12,9 @@ use Rattle.sound.specs.IsSound.{isSound}
 use Rattle.listing.specs.Listing.{lastOf, listedOf, shown}
 use Rattle.listing.specs.declared.Listed.{Listed}
 use Rattle.listing.specs.declared.Listed.the-variants.{Count, Short}
-use Rattle.answers.specs.declared.Answer.{Answer}
-use Rattle.answers.specs.declared.Answer.the-variants.{Accepted, InvalidEntry, InvalidRequest}
-use Rattle.accounts.specs.declared.Counted.{Counted}
+use Rattle.calls.specs.declared.Answer.{Answer}
+use Rattle.calls.specs.declared.Answer.the-variants.{Accepted, InvalidEntry, InvalidRequest}
+use Rattle.calls.specs.declared.Counted.{Counted}
 
 abbrev pub counted : ℕ → Counted
 counted v = record { answer = Accepted (record { 0 = 0 }); value = v }

@@ -1,5 +1,6 @@
 // What a state shows of itself: its total, and the listing of its ranges.
-use answers::Answer;
+use calls::Answer;
+use calls::Counted;
 use listing::Listed;
 use listing::list_in;
 use sound::is_sound;
@@ -8,12 +9,6 @@ use state::MemoryAllocator;
 ghost use mathlib.Core.Path.{_≡_};
 ghost use Rattle.state.specs.Shown.{pool};
 ghost use Rattle.accounts.specs.Accounts.{totalOf, listedAnswer, Lists};
-
-// A number beside the answer; 0 where the answer is a refusal.
-pub struct Counted {
-    pub answer: Answer,
-    pub value: u64,
-}
 
 // The number of free bytes.
 pub fn total(s: MemoryAllocator) -> Counted

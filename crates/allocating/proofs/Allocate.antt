@@ -16,7 +16,8 @@ use Rattle.state.specs.declared.MemoryAllocator.{MemoryAllocator}
 use Rattle.links.specs.Hits.{hitOf}
 use Rattle.links.specs.declared.Hit.the-variants.{At, Nothing}
 use Rattle.take.specs.Take.{Asks, refuses}
-use Rattle.answers.proofs.Endings.{hit-at, hit-nothing, stands-at}
+use Rattle.links.proofs.Hits.{hit-at, hit-nothing}
+use Rattle.state.proofs.States.{stands-at}
 
 module _ (n z o : ℕ) (b : Book) where
   pub zero-size : z ≡ 0 → allocate n z o b ≡ refused 4 b

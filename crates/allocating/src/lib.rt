@@ -1,6 +1,6 @@
 // `allocate`, in place.
 use align::align_up;
-use answers::Answer;
+use calls::Answer;
 use entries::Moving;
 use links::Hit;
 use shelf::find_fit;
@@ -13,7 +13,7 @@ ghost use Prim.Native.Nat.{_+_, _<_, _≤_};
 ghost use Rattle.rules.specs.Rules.{allocate, allocateFrom, find, fits};
 ghost use Rattle.state.specs.Shown.{pool};
 ghost use Rattle.state.specs.Lent.{HoldsSome};
-ghost use Rattle.answers.specs.Answers.{Follows};
+ghost use Rattle.calls.specs.Answers.{Follows};
 
 // `size` bytes are taken from the first range of the shelf that fits, if there is one.
 fn allocate_fit(

@@ -14,11 +14,11 @@ use Rattle.state.specs.Sound.{bookOf}
 use Rattle.state.specs.declared.MemoryAllocator.{MemoryAllocator}
 use Rattle.sound.specs.IsSound.{isSound}
 use Rattle.soundness.specs.Paragraph.{Sized}
-use Rattle.answers.specs.Answers.{numberOf}
+use Rattle.calls.specs.Calls.{numberOf}
 use Rattle.listing.specs.Listing.{lastOf, listedOf, shown}
 use Rattle.listing.proofs.Walk.{few}
 use Rattle.accounts.specs.Accounts.{counted, totalOf, listingOf, shownOf, Lists}
-use Rattle.accounts.specs.declared.Counted.{Counted}
+use Rattle.calls.specs.declared.Counted.{Counted}
 use Rattle.accounts.proofs.Shows.{ordered}
 use Rattle.texts.specs.Answers.{rangeText, noText, listText, Puts}
 use Rattle.texts.proofs.Buffers.{at-most-48}
@@ -43,7 +43,7 @@ module _ (n : ℕ) (s : MemoryAllocator) (held : Counted) (is : held ≡ totalOf
   unfolding totalOf
   number-is = number ∙ ap (λ (k : Counted). numberOf (k .answer)) is ∙ go (isSound n s)
     where
-      go : (t : Bool) → numberOf (cond t (counted (rules.total (bookOf n s))) (record { answer = Rattle.answers.specs.declared.Answer.the-variants.InvalidEntry; value = 0 }) .answer) ≡ cond t 0 2
+      go : (t : Bool) → numberOf (cond t (counted (rules.total (bookOf n s))) (record { answer = Rattle.calls.specs.declared.Answer.the-variants.InvalidEntry; value = 0 }) .answer) ≡ cond t 0 2
       go true = refl
       go false = refl
 

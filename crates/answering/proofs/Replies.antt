@@ -7,12 +7,14 @@ use native.Mathlib.Omega.{arith}
 use borrow.Author.Tests.{leb-true, not-true, not-false}
 use lib.ListN.{length}
 use Rattle.state.specs.declared.MemoryAllocator.{MemoryAllocator}
-use Rattle.memory_allocator.specs.Promises.{freeOf, allocateOf, reserveOf}
-use Rattle.serving.specs.declared.Outcome.{Outcome}
+use Rattle.calls.specs.Calls.{callOf}
+use Rattle.calls.specs.declared.Outcome.{Outcome}
+use Rattle.calls.specs.declared.Request.{Request}
+use Rattle.serving.specs.Made.{made}
 use Rattle.lines.specs.declared.parse.Line.{Line}
 use Rattle.lines.specs.declared.parse.Line.the-variants as Say
 use Rattle.answering.specs.Script.{room, roomy, textOf, stateAfter, Says, Answers}
-use Rattle.replies.specs.Replies.{movedText, placedText}
+use Rattle.replies.specs.Replies.{line, replyText, PutsWithin}
 use Rattle.answering.specs.declared.Answered.{Answered}
 
 no : true ≡ false → ⊥
@@ -30,16 +32,11 @@ module _ (n : ℕ) (s : MemoryAllocator) (l : Line) (out : List ℕ) (at : ℕ) 
       let yes : roomy n out at ≡ true = sym is ∙ not-false b h in
       record { state = rw (yes, e) (w .state); bytes = rw (yes, e) (w .text .puts .bytes); next = rw (yes, e) (w .text .puts .next); whole = λ _. rw e (w .text .short) }
 
--- what each call says
-module _ (n : ℕ) (s : MemoryAllocator) (m : Outcome) (out : List ℕ) (at : ℕ) (r : Answered) (out′ : List ℕ) where
-  pub free-says : (a z : ℕ) → m ≡ freeOf n s a z → Says n (m .state) (movedText (m .answer)) out at r out′ → Says n (stateAfter n s (Say.Free a z)) (textOf n s (Say.Free a z)) out at r out′
-  unfolding textOf stateAfter
-  free-says a z e w = rw e at w
-
-  pub reserve-says : (a z o : ℕ) → m ≡ reserveOf n s a z o → Says n (m .state) (movedText (m .answer)) out at r out′ → Says n (stateAfter n s (Say.Reserve a z o)) (textOf n s (Say.Reserve a z o)) out at r out′
-  unfolding textOf stateAfter
-  reserve-says a z o e w = rw e at w
-
-  pub allocate-says : (z o : ℕ) → m ≡ allocateOf n s z o → Says n (m .state) (placedText (m .answer)) out at r out′ → Says n (stateAfter n s (Say.Allocate z o)) (textOf n s (Say.Allocate z o)) out at r out′
-  unfolding textOf stateAfter
-  allocate-says z o e w = rw e at w
+-- what a call says
+pub request-says : (n : ℕ) (s : MemoryAllocator) (m : Outcome) (out : List ℕ) (at : ℕ) (r : Answered) (out′ : List ℕ) (q : Request) → m ≡ made n s (callOf q)
+    → r .state ≡ m .state → PutsWithin line (replyText q (m .answer)) out at out′ (r .next) → Says n (stateAfter n s (Say.Asks q)) (textOf n s (Say.Asks q)) out at r out′
+unfolding textOf stateAfter
+request-says n s m out at r out′ q e es p =
+    let h = p .short in
+    let w : Says n (m .state) (replyText q (m .answer)) out at r out′ = record { state = es; text = record { short = omega arith; puts = p .puts } } in
+    rw e at w

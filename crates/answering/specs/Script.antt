@@ -10,12 +10,13 @@ use Rattle.rules.specs.Rules.{Range}
 use Rattle.state.specs.Sound.{bookOf}
 use Rattle.state.specs.declared.MemoryAllocator.{MemoryAllocator}
 use Rattle.sound.specs.IsSound.{isSound}
-use Rattle.memory_allocator.specs.Promises.{allocateOf, reserveOf, freeOf}
+use Rattle.calls.specs.Calls.{callOf}
+use Rattle.serving.specs.Made.{made}
 use Rattle.texts.specs.Answers.{noText, badText, rangeText, listText, written, past}
 use Rattle.lines.specs.declared.parse.Line.{Line}
 use Rattle.lines.specs.declared.parse.Line.the-variants as Say
 use Rattle.answering.specs.declared.Answered.{Answered}
-use Rattle.replies.specs.Replies.{movedText, placedText, line, PutsWithin}
+use Rattle.replies.specs.Replies.{replyText, line, PutsWithin}
 
 -- ---- the texts
 
@@ -31,16 +32,12 @@ listingText n s = cond (isSound n s) (listText (length (bookOf n s .chain)) (rul
 -- ---- a line
 
 unfoldable pub textOf : ℕ → MemoryAllocator → Line → List ℕ
-textOf n s (Say.Free a z) = movedText (freeOf n s a z .answer)
-textOf n s (Say.Allocate z o) = placedText (allocateOf n s z o .answer)
-textOf n s (Say.Reserve a z o) = movedText (reserveOf n s a z o .answer)
+textOf n s (Say.Asks q) = replyText q (made n s (callOf q) .answer)
 textOf n s Say.List = listingText n s
 textOf n s Say.Bad = badText
 
 unfoldable pub stateAfter : ℕ → MemoryAllocator → Line → MemoryAllocator
-stateAfter n s (Say.Free a z) = freeOf n s a z .state
-stateAfter n s (Say.Allocate z o) = allocateOf n s z o .state
-stateAfter n s (Say.Reserve a z o) = reserveOf n s a z o .state
+stateAfter n s (Say.Asks q) = made n s (callOf q) .state
 stateAfter n s Say.List = s
 stateAfter n s Say.Bad = s
 

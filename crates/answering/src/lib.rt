@@ -1,19 +1,15 @@
 // The answer to one line of the script: the call is made, and its text goes into a buffer.
+use calls::number_of;
 use lines::parse::Line;
 use lines::parse::parse_line;
-use memory_allocator::Address;
 use memory_allocator::MemoryAllocator;
-use memory_allocator::Outcome;
 use memory_allocator::POOL;
-use memory_allocator::allocate;
-use memory_allocator::free;
+use memory_allocator::Request;
 use memory_allocator::listing;
-use memory_allocator::reserve_memory;
+use memory_allocator::serve;
 use memory_allocator::total;
 use replies::ROOM;
-use replies::number_of;
-use replies::put_moved;
-use replies::put_placed;
+use replies::put_reply;
 use replies::put_table;
 use texts::put_bad;
 use texts::put_no;
@@ -21,10 +17,11 @@ ghost use mathlib.Core.Path.{_≡_};
 ghost use Prim.Native.Nat.{_+_, _≤_};
 ghost use lib.Dec.{leb};
 ghost use lib.ListN.{length};
-ghost use Rattle.state.specs.Shown.{pool};
+ghost use Rattle.memory_allocator.specs.Names.{pool};
 ghost use Rattle.lines.specs.Script.{lineOf};
-ghost use Rattle.answering.specs.Script.{room, listingText, Says, Answers};
-ghost use Rattle.replies.specs.Replies.{PutsWithin, movedText, placedText};
+ghost use Rattle.lines.specs.declared.parse.Line.the-variants.{Asks};
+ghost use Rattle.answering.specs.Script.{room, listingText, textOf, stateAfter, Says, Answers};
+ghost use Rattle.replies.specs.Replies.{PutsWithin};
 
 // The state that a line leaves, and the place after its text.
 pub struct Answered {
@@ -42,24 +39,14 @@ pub fn has_room(size: usize, at: usize) -> bool
     at <= size - ROOM
 }
 
-fn answer_moved(made: Outcome, out: &mut [u8], at: usize) -> Answered
-    ensures { λ r. ⌜ Says pool (made .state) (movedText (made .answer)) (now (out .entry)) at r (now (out .exit)) ⌝ }
+// The call is made, and its answer printed.
+fn answer_request(s: MemoryAllocator, request: Request, out: &mut [u8], at: usize) -> Answered
+    ensures { λ r. ⌜ Says pool (stateAfter pool s (Asks request)) (textOf pool s (Asks request)) (now (out .entry)) at r (now (out .exit)) ⌝ }
 {
+    let made = serve(s, request);
     let answer = made.answer;
     let state = made.state;
-    let next = put_moved(answer, out, at);
-    Answered {
-        state: state,
-        next: next,
-    }
-}
-
-fn answer_placed(made: Outcome, out: &mut [u8], at: usize) -> Answered
-    ensures { λ r. ⌜ Says pool (made .state) (placedText (made .answer)) (now (out .entry)) at r (now (out .exit)) ⌝ }
-{
-    let answer = made.answer;
-    let state = made.state;
-    let next = put_placed(answer, out, at);
+    let next = put_reply(request, answer, out, at);
     Answered {
         state: state,
         next: next,
@@ -91,13 +78,7 @@ pub fn answer_line(s: MemoryAllocator, line: &[u8], out: &mut [u8], at: usize) -
         return Answered { state: s, next: at };
     }
     match parse_line(line) {
-        Line::Free(start, size) => answer_moved(free(s, Address(start), size), out, at),
-        Line::Allocate(size, order) => answer_placed(allocate(s, size, order), out, at),
-        Line::Reserve(start, size, order) => answer_moved(
-            reserve_memory(s, Address(start), size, order),
-            out,
-            at,
-        ),
+        Line::Asks(request) => answer_request(s, request, out, at),
         Line::List => {
             let next = put_listing(s, out, at);
             Answered {

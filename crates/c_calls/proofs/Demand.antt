@@ -1,4 +1,4 @@
--- The C calls follow the rules, so demand 3 holds of them, from the image's bytes alone: over whatever lies in a slice of the image's
+-- The C calls obey the rules, so demand 3 holds of them, from the image's bytes alone: over whatever lies in a slice of the image's
 -- length, the call that writes the image of `new`, and then any list of calls. (`current` is lawful: `lawful-current`.) Assumes nothing.
 use Prim.Native.Nat.{ℕ, _≤_}
 use mathlib.Core.List.{List}
@@ -9,13 +9,14 @@ use Rattle.lists.specs.Links.{none}
 use Rattle.rules.specs.Rules.{Book, empty, total}
 use Rattle.rules.specs.Sound.{Sound}
 use Rattle.engine.specs.Demand.{Demand}
-use Rattle.engine.proofs.Follows.{Follows}
+use Rattle.engine.proofs.Obeys.{Obeys}
 use Rattle.engine.proofs.Demand as engine
 use Rattle.state.specs.State.{stateOf}
 use Rattle.state.specs.Sound.{bookOf, SoundState}
 use Rattle.state.specs.declared.MemoryAllocator.{MemoryAllocator}
 use Rattle.state.proofs.Book.{book-back}
-use Rattle.serving.specs.declared.Outcome.{Outcome}
+use Rattle.calls.specs.Calls.{voucherFrom}
+use Rattle.calls.specs.declared.Outcome.{Outcome}
 use Rattle.memory_allocator.proofs.Steps.{sound-held, made-held, made-voucher}
 use Rattle.image_parts.specs.Layout.{Layout, imageSize}
 use Rattle.image.specs.Writing.{imageOf}
@@ -24,7 +25,7 @@ use Rattle.image.proofs.Fitting.{Lawful, sound-fits}
 use Rattle.image.proofs.ReadBack.{state-back}
 use Rattle.image.proofs.Rounds.{read-written}
 use Rattle.c_calls.specs.CCalls.{Returned, returned, finished, newOver, callOver}
-use Rattle.c_calls.specs.Images.{voucherFrom, bookIn, totalIn, images}
+use Rattle.c_calls.specs.Images.{bookIn, totalIn, images}
 use Rattle.c_calls.proofs.Ways.{small-pool, new-done}
 use Rattle.c_calls.proofs.Images.{call-bytes, call-voucher}
 
@@ -56,8 +57,8 @@ module _ (f : Layout) (lawful : Lawful f) where
     unfolding finished
     new-written = sym (new-done f l _ sized refl)
 
-    pub follows : Follows n (images f l)
-    follows = record {
+    pub obeys : Obeys n (images f l)
+    obeys = record {
       Of = λ b m. m ≡ imageOf f (stateOf n b);
       begins = ap (λ (x : Returned). x .bytes) new-written;
       answers = λ b m c h o. ap (λ (x : List ℕ). voucherFrom c (callOver f c x .number)) o ∙ call-voucher f lawful (stateOf n b) (held b h) c ∙ made-voucher n small b c h;
@@ -70,4 +71,4 @@ module _ (f : Layout) (lawful : Lawful f) where
     }
 
     pub demand : Demand (images f l)
-    demand = engine.demand follows
+    demand = engine.demand obeys

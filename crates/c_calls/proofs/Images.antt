@@ -8,28 +8,17 @@ use Rattle.rules.specs.Rules.{Call}
 use Rattle.state.specs.Sound.{SoundState}
 use Rattle.state.specs.declared.MemoryAllocator.{MemoryAllocator}
 use Rattle.soundness.proofs.Exact.{sound-sized}
-use Rattle.answers.specs.Answers.{numberOf}
-use Rattle.answers.specs.declared.Answer.{Answer}
-use Rattle.answers.specs.declared.Answer.the-variants.{Accepted, NoEntry, InvalidEntry, NoMemory, InvalidRequest}
-use Rattle.memory_allocator.specs.States.{voucherOf}
+use Rattle.calls.specs.Calls.{numberOf, isAccepted, voucherOf, voucherFrom}
+use Rattle.calls.proofs.Numbers.{signed-voucher}
 use Rattle.serving.specs.Made.{made}
-use Rattle.serving.specs.declared.Outcome.{Outcome}
+use Rattle.calls.specs.declared.Outcome.{Outcome}
 use Rattle.memory_allocator.proofs.Refusals.{refused-same}
 use Rattle.image_parts.specs.Layout.{Layout}
 use Rattle.image.specs.Writing.{imageOf}
 use Rattle.image.proofs.Fitting.{Lawful}
 use Rattle.image.proofs.Rounds.{read-written}
-use Rattle.c_calls.specs.CCalls.{Returned, signedOf, isAccepted, finished, over, callOver}
-use Rattle.c_calls.specs.Images.{voucherFrom}
+use Rattle.c_calls.specs.CCalls.{Returned, finished, over, callOver}
 use Rattle.c_calls.proofs.Ways.{small-pool}
-
--- the voucher of a signed answer is the answer's
-signed-voucher : (c : Call) (s : MemoryAllocator) (k : Answer) → voucherFrom c (signedOf k) ≡ voucherOf c (record { answer = k; state = s })
-signed-voucher c s (Accepted a) = refl
-signed-voucher c s NoEntry = refl
-signed-voucher c s InvalidEntry = refl
-signed-voucher c s NoMemory = refl
-signed-voucher c s InvalidRequest = refl
 
 -- over the image of the state that a refusal hands back, every outcome leaves the image of its state
 leaves-image : (f : Layout) (r : Outcome) (s : MemoryAllocator) → (numberOf (r .answer) ≢ 0 → r .state ≡ s) → finished f r (imageOf f s) .bytes ≡ imageOf f (r .state)
@@ -53,6 +42,6 @@ module _ (f : Layout) (lawful : Lawful f) where
     pub call-bytes : callOver f c (imageOf f s) .bytes ≡ imageOf f (made n s c .state)
     call-bytes = ap (λ (x : Returned). x .bytes) call-image ∙ leaves-image f (made n s c) s (refused-same n (small-pool f lawful) s c (sound-sized n (small-pool f lawful) s h))
 
-    pub call-voucher : voucherFrom c (callOver f c (imageOf f s) .number) ≡ voucherOf c (made n s c)
+    pub call-voucher : voucherFrom c (callOver f c (imageOf f s) .number) ≡ voucherOf c (made n s c .answer)
     unfolding finished
-    call-voucher = ap (λ (x : Returned). voucherFrom c (x .number)) call-image ∙ signed-voucher c (made n s c .state) (made n s c .answer)
+    call-voucher = ap (λ (x : Returned). voucherFrom c (x .number)) call-image ∙ signed-voucher c (made n s c .answer)

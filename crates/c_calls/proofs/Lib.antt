@@ -1,5 +1,4 @@
 -- Laws of the C calls; Demand states demand 3 over the images, Refusals what a refusal leaves.
-pub mod Below
 pub mod Ways
 pub mod Images
 pub mod Refusals

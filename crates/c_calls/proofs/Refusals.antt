@@ -7,17 +7,17 @@ use mathlib.Core.Path.{_≡_, refl, sym, ap, _∙_}
 use lib.IntN.{ℤ}
 use lib.ListN.{length}
 use Rattle.rules.specs.Rules.{Call}
-use Rattle.answers.specs.declared.Answer.{Answer}
-use Rattle.answers.specs.declared.Answer.the-variants.{Accepted, NoEntry, InvalidEntry, NoMemory, InvalidRequest}
-use Rattle.serving.specs.declared.Outcome.{Outcome}
+use Rattle.calls.specs.Calls.{isAccepted, signedOf, numberFrom}
+use Rattle.calls.specs.declared.Answer.{Answer}
+use Rattle.calls.specs.declared.Answer.the-variants.{Accepted, NoEntry, InvalidEntry, NoMemory, InvalidRequest}
+use Rattle.calls.specs.declared.Outcome.{Outcome}
 use Rattle.bytes_be.specs.Numbers.{Bytes}
 use Rattle.image_parts.specs.Layout.{Layout, imageSize}
 use Rattle.image.specs.Writing.{imageOf, Image}
 use Rattle.image.proofs.Fitting.{Lawful}
 use Rattle.image.proofs.Ways.{framed-not, unframed}
 use Rattle.image.proofs.Rounds.{refused-exactly}
-use Rattle.c_calls.specs.CCalls.{Returned, returned, signedOf, isAccepted, finished, over, callOver, newOver}
-use Rattle.c_calls.specs.Images.{numberFrom}
+use Rattle.c_calls.specs.CCalls.{Returned, returned, finished, over, callOver, newOver}
 use Rattle.c_calls.proofs.Ways.{no-room}
 
 module _ (f : Layout) (l : List ℕ) where

@@ -2,24 +2,25 @@
 use Prim.Native.Nat.{ℕ, _<_, _≤_}
 use mathlib.Core.Bool.{Bool, true, false, not}
 use mathlib.Core.List.{List}
-use mathlib.Core.Path.{_≡_, refl, sym, ap, _∙_, subst}
+use mathlib.Core.Path.{_≡_, sym, ap, _∙_, subst}
 use native.Mathlib.Omega.{arith}
 use lib.Dec.{lit<}
 use lib.IntN.{ℤ, pos}
 use lib.Signed.{ltZ}
 use lib.ListN.{length}
-use borrow.Author.Tests.{eq-eqb, ne-eqb, le-ltb}
+use borrow.Author.Tests.{eq-eqb, ne-eqb}
 use Rattle.lists.specs.Links.{none}
 use Rattle.rules.specs.Rules.{Call, step, Voucher}
 use Rattle.state.specs.Sound.{bookOf, SoundState}
 use Rattle.state.specs.declared.MemoryAllocator.{MemoryAllocator}
 use Rattle.sound.specs.IsSound.{isSound}
 use Rattle.soundness.proofs.Exact.{sound-passes}
-use Rattle.answers.specs.Answers.{addressOf}
-use Rattle.answers.specs.declared.Answer.{Answer}
-use Rattle.answers.specs.declared.Answer.the-variants.{Accepted, NoEntry, InvalidEntry, NoMemory, InvalidRequest}
+use Rattle.calls.specs.Calls.{addressOf, isAccepted, signedOf}
+use Rattle.calls.specs.declared.Answer.the-variants.{InvalidEntry}
+use Rattle.calls.proofs.Below.{step-below}
+use Rattle.calls.proofs.Numbers.{refusal-negative}
 use Rattle.serving.specs.Made.{made}
-use Rattle.serving.specs.declared.Outcome.{Outcome}
+use Rattle.calls.specs.declared.Outcome.{Outcome}
 use Rattle.memory_allocator.proofs.Steps.{made-voucher}
 use Rattle.bytes_be.specs.Numbers.{Bytes}
 use Rattle.image_parts.specs.Layout.{Layout, imageSize}
@@ -31,8 +32,7 @@ use Rattle.image.specs.declared.ImageAnswer.the-variants as image-answer
 use Rattle.image.proofs.Fitting.{Lawful, sound-fits}
 use Rattle.image.proofs.ReadBack.{frame-back}
 use Rattle.image.proofs.Rounds.{read-written, accepted-image}
-use Rattle.c_calls.specs.CCalls.{Returned, returned, signedOf, isAccepted, finished, callOver, begun, newOver, over, Finishes}
-use Rattle.c_calls.proofs.Below.{step-below}
+use Rattle.c_calls.specs.CCalls.{Returned, returned, finished, callOver, begun, newOver, over, Finishes}
 
 pub small-pool : (f : Layout) → Lawful f → f .records ≤ none
 small-pool f lawful = let h = lawful .records in let k = lawful .links in omega arith
@@ -46,14 +46,6 @@ made-address n small s c h = ap (λ (t : MemoryAllocator). addressOf (made n t c
 flip : (b c : Bool) → not b ≡ c → b ≡ not c
 flip true c e = ap not e
 flip false c e = ap not e
-
--- a number below 0 is a refusal's, and no other is
-refusal-negative : (k : Answer) → ltZ (signedOf k) (pos 0) ≡ not (isAccepted k)
-refusal-negative (Accepted a) = le-ltb (a .0) 0 (omega arith)
-refusal-negative NoEntry = refl
-refusal-negative InvalidEntry = refl
-refusal-negative NoMemory = refl
-refusal-negative InvalidRequest = refl
 
 module _ (f : Layout) (r : Outcome) (l : List ℕ) (i : ℤ) (number : i ≡ signedOf (r .answer)) where
   accepts : (t : Bool) → ltZ i (pos 0) ≡ t → isAccepted (r .answer) ≡ not t

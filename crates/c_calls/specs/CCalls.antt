@@ -4,15 +4,14 @@ use mathlib.Core.Bool.{Bool, cond}
 use mathlib.Core.List.{List}
 use mathlib.Core.Path.{_≡_}
 use lib.Dec.{eqb}
-use lib.IntN.{ℤ, pos, negℤ}
+use lib.IntN.{ℤ}
 use lib.ListN.{length}
 use Rattle.rules.specs.Rules.{top, empty, Call, Free, Allocate, Reserve}
 use Rattle.state.specs.State.{stateOf}
-use Rattle.answers.specs.Answers.{numberOf, addressOf}
-use Rattle.answers.specs.declared.Answer.{Answer}
-use Rattle.answers.specs.declared.Answer.the-variants.{Accepted, InvalidEntry}
+use Rattle.calls.specs.Calls.{addressOf, isAccepted, signedOf}
+use Rattle.calls.specs.declared.Answer.the-variants.{Accepted, InvalidEntry}
 use Rattle.serving.specs.Made.{made}
-use Rattle.serving.specs.declared.Outcome.{Outcome}
+use Rattle.calls.specs.declared.Outcome.{Outcome}
 use Rattle.image_parts.specs.Layout.{Layout, imageSize}
 use Rattle.image.specs.Writing.{imageOf}
 use Rattle.image.specs.Reading.{readingOf}
@@ -24,13 +23,6 @@ pub record Returned : Type 0 where
 
 abbrev pub returned : ℤ → List ℕ → Returned
 returned i l = record { number = i; bytes = l }
-
-abbrev pub isAccepted : Answer → Bool
-isAccepted k = eqb (numberOf k) 0
-
--- the address, or minus the number of the refusal
-abbrev pub signedOf : Answer → ℤ
-signedOf k = cond (isAccepted k) (pos (addressOf k)) (negℤ (pos (numberOf k)))
 
 -- the image of the state that an accepted call leaves; a refusal changes no byte
 unfoldable pub finished : Layout → Outcome → List ℕ → Returned

@@ -1,27 +1,15 @@
--- The C calls over one slice, as an engine: what is kept of a call, and what is read off an image, from its bytes and the signed answers alone. Assumes nothing.
-use Prim.Native.Nat.{ℕ, suc}
+-- The C calls over one slice, as an engine: what a call answers and leaves, and what is read off an image, from its bytes and the signed answers alone. Assumes nothing.
+use Prim.Native.Nat.{ℕ}
 use mathlib.Core.List.{List}
-use lib.IntN.{ℤ, pos, negsuc}
-use Rattle.rules.specs.Rules.{Book, Call, Voucher}
+use Rattle.rules.specs.Rules.{Book}
 use Rattle.engine.specs.Engine.{Engine}
 use Rattle.state.specs.Sound.{bookOf}
+use Rattle.calls.specs.Calls.{voucherFrom}
 use Rattle.image_parts.specs.Layout.{Layout, word, totalAt}
 use Rattle.image_parts.specs.Read.{numberIn}
 use Rattle.image.specs.Writing.{Image}
 use Rattle.image.specs.Reading.{readingOf}
 use Rattle.c_calls.specs.CCalls.{callOver, newOver}
-
--- the number and the address that a signed answer stands for
-abbrev pub numberFrom : ℤ → ℕ
-numberFrom (pos a) = 0
-numberFrom (negsuc k) = suc k
-
-abbrev pub addressFrom : ℤ → ℕ
-addressFrom (pos a) = a
-addressFrom (negsuc k) = 0
-
-abbrev pub voucherFrom : Call → ℤ → Voucher
-voucherFrom c i = record { call = c; number = numberFrom i; address = addressFrom i }
 
 -- the book of the state that the image holds
 abbrev pub bookIn : Layout → List ℕ → Book

@@ -1,5 +1,5 @@
 // The calls as C has them: over a lent image, with one signed number as the answer.
-use finish::INVALID_ENTRY;
+use calls::INVALID_ENTRY;
 use finish::finish_call;
 use image_parts::layout::IMAGE;
 use memory_allocator::Address;

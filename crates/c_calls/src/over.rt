@@ -1,13 +1,13 @@
 // A request served on the state that an image holds.
-use crate::finish::INVALID_ENTRY;
 use crate::finish::finish_call;
+use calls::INVALID_ENTRY;
 use image::ImageAnswer;
 use image::read_image;
 use memory_allocator::Request;
 use serving::serve_sound;
 ghost use mathlib.Core.Path.{_≡_};
 ghost use Rattle.image_parts.specs.Layout.{current};
-ghost use Rattle.requests.specs.Requests.{callOf};
+ghost use Rattle.calls.specs.Calls.{callOf};
 ghost use Rattle.c_calls.specs.CCalls.{returned, callOver};
 
 // An image that holds no sound state stays as it is. Reading has checked the state; nothing checks it again.

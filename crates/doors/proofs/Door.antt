@@ -35,13 +35,13 @@ use denote.Triple.Walked.{says, Stays, stay-ref, hasOf, walkOf, goes-ref, ends-a
 use denote.Triple.Clauses.{Ended, Clauses, closing, ensured, lasts}
 use denote.Exit.{yes}
 use Rattle.state.specs.declared.MemoryAllocator.{MemoryAllocator}
-use Rattle.serving.specs.declared.Outcome.{Outcome}
+use Rattle.calls.specs.declared.Outcome.{Outcome}
 use Rattle.state.proofs.MemoryAllocator as T
 use Rattle.state.proofs.MemoryAllocator.Laws as T′
-use Rattle.answers.proofs.Answer as N
-use Rattle.answers.proofs.Answer.Laws as N′
-use Rattle.serving.proofs.Outcome as O
-use Rattle.serving.proofs.Outcome.Laws as O′
+use Rattle.calls.proofs.Answer as N
+use Rattle.calls.proofs.Answer.Laws as N′
+use Rattle.calls.proofs.Outcome as O
+use Rattle.calls.proofs.Outcome.Laws as O′
 use Rattle.doors.proofs.Passed.{Passed}
 use Rattle.doors.proofs.Passing.{rows, slots, keeps, stays, kinds, values, spells, tellss, Proper, lastss, fits, all-go, makess, had}
 

@@ -27,13 +27,13 @@ use denote.Triple.Statement.{Triple}
 use denote.Triple.Call.{calls-at}
 use denote.Triple.Clauses.{ensured}
 use Rattle.state.specs.declared.MemoryAllocator.{MemoryAllocator}
-use Rattle.serving.specs.declared.Outcome.{Outcome}
+use Rattle.calls.specs.declared.Outcome.{Outcome}
 use Rattle.state.proofs.MemoryAllocator as T
 use Rattle.state.proofs.MemoryAllocator.Laws as T′
-use Rattle.answers.proofs.Answer as N
-use Rattle.answers.proofs.Answer.Laws as N′
-use Rattle.serving.proofs.Outcome as O
-use Rattle.serving.proofs.Outcome.Laws as O′
+use Rattle.calls.proofs.Answer as N
+use Rattle.calls.proofs.Answer.Laws as N′
+use Rattle.calls.proofs.Outcome as O
+use Rattle.calls.proofs.Outcome.Laws as O′
 use Rattle.doors.proofs.Passed.{Passed}
 use Rattle.doors.proofs.Passing.{rows, Proper}
 use Rattle.doors.proofs.Door.{val, answer-is, state-is, code, core-ended, Promise, core-clauses, Core, Door, said-of, typed, to-core, goes-core, Before, After, exits, meets}

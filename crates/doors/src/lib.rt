@@ -3,7 +3,7 @@ use memory_allocator::Address;
 use memory_allocator::Answer;
 use memory_allocator::MemoryAllocator;
 ghost use mathlib.Core.Path.{_≡_};
-ghost use Rattle.state.specs.Shown.{pool};
+ghost use Rattle.memory_allocator.specs.Names.{pool};
 ghost use Rattle.memory_allocator.specs.Promises.{allocateOf, reserveOf, freeOf};
 
 // `size` bytes from a multiple of 2^order.

@@ -1,4 +1,4 @@
--- Demand 3 of every engine that follows the rules. Each sentence is shown from any state of a sound book on; the first state is one. Assumes nothing.
+-- Demand 3 of every engine that obeys the rules. Each sentence is shown from any state of a sound book on; the first state is one. Assumes nothing.
 use Prim.Native.Nat.{ℕ}
 use mathlib.Core.Bool.{Bool, false, not, cond}
 use mathlib.Core.List.{List, [], _∷_}
@@ -15,7 +15,7 @@ use Rattle.laws.proofs.Shelf.{same-shelf}
 use Rattle.laws.proofs.HandBack.{step-back}
 use Rattle.engine.specs.Engine.{Engine, after, vouchers, freeIn, rules}
 use Rattle.engine.specs.Demand.{left, SameFree, SameShelves, handingBack, Demand}
-use Rattle.engine.proofs.Follows.{Follows}
+use Rattle.engine.proofs.Obeys.{Obeys}
 
 -- a voucher more, before the others
 earlier : (v : Voucher) (x : ℕ) (d : Bool) (m : Option Voucher)
@@ -23,7 +23,7 @@ earlier : (v : Voucher) (x : ℕ) (d : Bool) (m : Option Voucher)
 earlier v x d none = if (covers v x) (λ o. said (cond (covers v x) (frees (v .call)) d) none ≡ said d o) (λ t. rw (T-true (covers v x) t)) (λ t. rw (T-false (covers v x) t))
 earlier v x d (some w) = refl
 
-module _ {n : ℕ} {e : Engine} (f : Follows n e) where
+module _ {n : ℕ} {e : Engine} (f : Obeys n e) where
   -- the state is one of a sound book
   pub record Stands (s : e .State) : Type 0 where
     pub held : Book

@@ -1,4 +1,4 @@
--- The law of multiples over any list of calls, for any divisor and of every engine that follows the rules: where all calls move pieces
+-- The law of multiples over any list of calls, for any divisor and of every engine that obeys the rules: where all calls move pieces
 -- whose ends are multiples, so are the ends of all free ranges. Assumes nothing.
 use Prim.Native.Nat.{ℕ}
 use mathlib.Core.List.{List, [], _∷_}
@@ -8,7 +8,7 @@ use Rattle.rules.specs.Sound.{Sound}
 use Rattle.laws.proofs.Multiples.{Blocks, Moves, step-blocks, Whole, whole-moves}
 use Rattle.engine.specs.Engine.{Engine, after}
 use Rattle.engine.specs.Demand.{left}
-use Rattle.engine.proofs.Follows.{Follows}
+use Rattle.engine.proofs.Obeys.{Obeys}
 use Rattle.engine.proofs.Demand.{Stands, stands-next, book-is, answer-is, first}
 
 abbrev pub Each : (Call → Type 0) → List Call → Type 0
@@ -23,7 +23,7 @@ pub whole-keeps : (n d : ℕ) (cs : List Call) → Each (Whole d) cs → Each (K
 whole-keeps n d [] h = tt
 whole-keeps n d (c ∷ cs) h = (λ b s e. whole-moves d n b c s e (h .0), whole-keeps n d cs (h .1))
 
-module _ {n : ℕ} {e : Engine} (f : Follows n e) (d : ℕ) where
+module _ {n : ℕ} {e : Engine} (f : Obeys n e) (d : ℕ) where
   module _ (s : e .State) (h : Stands f s) (blocks : Blocks d (e .book s)) where
     pub held-blocks : Blocks d (h .held)
     held-blocks = subst (Blocks d) (book-is f s h) blocks

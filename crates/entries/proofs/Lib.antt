@@ -2,3 +2,4 @@
 pub mod Unused
 pub mod Books
 pub mod Moves
+pub mod Endings

@@ -1,5 +1,5 @@
 // `free`, in place.
-use answers::Answer;
+use calls::Answer;
 use chain::overlaps_neighbour;
 use chain::search_entry_previous_address;
 use entries::Moving;
@@ -13,7 +13,7 @@ ghost use Prim.Native.Nat.{_+_, _<_, _≤_};
 ghost use Rattle.rules.specs.Rules.{top, free};
 ghost use Rattle.state.specs.Shown.{pool};
 ghost use Rattle.state.specs.Lent.{HoldsSome};
-ghost use Rattle.answers.specs.Answers.{Follows};
+ghost use Rattle.calls.specs.Answers.{Follows};
 ghost use Rattle.freeing.specs.Free.{freeFrom};
 
 // The bytes from `address` to before `past` become free, if none of them is.

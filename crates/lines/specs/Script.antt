@@ -5,7 +5,7 @@ use mathlib.Core.List.{List, [], _∷_}
 use mathlib.Core.Option.{Option, none, some}
 use lib.Dec.{leb, eqb}
 use lib.ListN.{length}
-use Rattle.rules.specs.Rules as Rules
+use Rattle.calls.specs.declared.Request.the-variants as asks
 use Rattle.lines.specs.Fields.{fields, numbersOf}
 use Rattle.lines.specs.declared.parse.Line.{Line}
 use Rattle.lines.specs.declared.parse.Line.the-variants as Say
@@ -20,8 +20,8 @@ letterOf (b ∷ c ∷ l) = 0
 unfoldable pub said : ℕ → List ℕ → Line
 said c [] = cond (eqb c 108) Say.List Say.Bad
 said c (x ∷ []) = Say.Bad
-said c (x ∷ y ∷ []) = cond (eqb c 102) (Say.Free x y) (cond (eqb c 97) (Say.Allocate x y) Say.Bad)
-said c (x ∷ y ∷ z ∷ []) = cond (eqb c 114) (Say.Reserve x y z) Say.Bad
+said c (x ∷ y ∷ []) = cond (eqb c 102) (Say.Asks (asks.Free (record { 0 = x }) y)) (cond (eqb c 97) (Say.Asks (asks.Allocate x y)) Say.Bad)
+said c (x ∷ y ∷ z ∷ []) = cond (eqb c 114) (Say.Asks (asks.Reserve (record { 0 = x }) y z)) Say.Bad
 said c (x ∷ y ∷ z ∷ w ∷ l) = Say.Bad
 
 unfoldable pub spoken : ℕ → Option (List ℕ) → Line
@@ -34,11 +34,3 @@ lineOfFields (name ∷ fs) = spoken (letterOf name) (numbersOf fs)
 
 unfoldable pub lineOf : List ℕ → Line
 lineOf l = cond (leb (length l) 80) (lineOfFields (fields l)) Say.Bad
-
--- the rules' call of a line that is one
-abbrev pub callOf : Line → Option Rules.Call
-callOf (Say.Free s z) = some (Rules.Free s z)
-callOf (Say.Allocate z o) = some (Rules.Allocate z o)
-callOf (Say.Reserve s z o) = some (Rules.Reserve s z o)
-callOf Say.List = none
-callOf Say.Bad = none

@@ -1,6 +1,8 @@
 // The call that a line says.
 use crate::find::Found;
 use crate::find::find_byte;
+use calls::Request;
+use state::Address;
 ghost use mathlib.Core.Path.{_≡_};
 ghost use mathlib.Core.List.{[], _∷_};
 ghost use lib.ListN.{drop};
@@ -9,9 +11,7 @@ ghost use Rattle.lines.specs.Script.{said, spoken, lineOf};
 ghost use Rattle.lines.specs.Steps.{number, valueFrom, fieldEnd, fieldAt};
 
 pub enum Line {
-    Free(u64, u64),
-    Allocate(u64, u64),
-    Reserve(u64, u64, u64),
+    Asks(Request),
     List,
     Bad,
 }
@@ -117,10 +117,10 @@ fn with_two(letter: u8, x: u64, y: u64) -> Line
     ensures { λ r. ⌜ r ≡ said letter (x ∷ y ∷ []) ⌝ }
 {
     if letter == b'f' {
-        return Line::Free(x, y);
+        return Line::Asks(Request::Free(Address(x), y));
     }
     if letter == b'a' {
-        return Line::Allocate(x, y);
+        return Line::Asks(Request::Allocate(x, y));
     }
     Line::Bad
 }
@@ -129,7 +129,7 @@ fn with_three(letter: u8, x: u64, y: u64, z: u64) -> Line
     ensures { λ r. ⌜ r ≡ said letter (x ∷ y ∷ z ∷ []) ⌝ }
 {
     if letter == b'r' {
-        return Line::Reserve(x, y, z);
+        return Line::Asks(Request::Reserve(Address(x), y, z));
     }
     Line::Bad
 }

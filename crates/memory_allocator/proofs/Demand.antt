@@ -1,26 +1,27 @@
--- The calls by value follow the rules, so demand 3 holds of them: from the empty allocator of n records, after any list of calls. Assumes nothing.
+-- The calls by value obey the rules, so demand 3 holds of them: from the empty allocator of n records, after any list of calls. Assumes nothing.
 use Prim.Native.Nat.{ℕ, _≤_}
 use mathlib.Core.Path.{_≡_, refl, sym, ap, _∙_, subst}
 use Rattle.lists.specs.Links.{none}
 use Rattle.engine.specs.Demand.{Demand}
-use Rattle.engine.proofs.Follows.{Follows}
+use Rattle.engine.proofs.Obeys.{Obeys}
 use Rattle.engine.proofs.Demand as engine
 use Rattle.state.specs.State.{stateOf}
 use Rattle.state.specs.Sound.{bookOf, SoundState}
 use Rattle.state.specs.declared.MemoryAllocator.{MemoryAllocator}
 use Rattle.state.proofs.Book.{book-back}
+use Rattle.calls.specs.Calls.{voucherOf}
 use Rattle.serving.specs.Made.{made}
-use Rattle.serving.specs.declared.Outcome.{Outcome}
-use Rattle.memory_allocator.specs.States.{voucherOf, states}
+use Rattle.calls.specs.declared.Outcome.{Outcome}
+use Rattle.memory_allocator.specs.States.{states}
 use Rattle.memory_allocator.proofs.Steps.{sound-held, made-held, made-voucher}
 
 module _ (n : ℕ) (small : n ≤ none) where
-  pub follows : Follows n (states n)
+  pub obeys : Obeys n (states n)
   unfolding stateOf
-  follows = record {
+  obeys = record {
     Of = λ b s. s ≡ stateOf n b;
     begins = refl;
-    answers = λ b s c h o. ap (λ (t : MemoryAllocator). voucherOf c (made n t c)) o ∙ made-voucher n small b c h;
+    answers = λ b s c h o. ap (λ (t : MemoryAllocator). voucherOf c (made n t c .answer)) o ∙ made-voucher n small b c h;
     leaves = λ b s c h o. ap (λ (t : MemoryAllocator). made n t c .state) o ∙ ap (λ (r : Outcome). r .state) (made-held n small b c h);
     shows = λ b s h o. ap (bookOf n) o ∙ book-back n small b h;
     counts = λ b s h o. ap (λ (t : MemoryAllocator). t .«free_size») o;
@@ -28,4 +29,4 @@ module _ (n : ℕ) (small : n ≤ none) where
   }
 
   pub demand : Demand (states n)
-  demand = engine.demand follows
+  demand = engine.demand obeys

@@ -12,9 +12,9 @@ use Rattle.state.specs.declared.MemoryAllocator.{MemoryAllocator}
 use Rattle.sound.specs.IsSound.{isSound}
 use Rattle.soundness.specs.Paragraph.{Sized}
 use Rattle.soundness.proofs.Exact.{passes-sound}
-use Rattle.answers.specs.Answers.{numberOf}
+use Rattle.calls.specs.Calls.{numberOf}
 use Rattle.serving.specs.Made.{made, judged}
-use Rattle.serving.specs.declared.Outcome as result
+use Rattle.calls.specs.declared.Outcome as result
 
 refused-book : (n : ℕ) (b : Book) (c : Call) (w : Answer) → Outcome n b c w → w .number ≢ 0 → w .book ≡ b
 refused-book n b c _ (refusal k h m) d = refl

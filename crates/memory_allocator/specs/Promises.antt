@@ -2,7 +2,7 @@
 use Prim.Native.Nat.{ℕ}
 use Rattle.rules.specs.Rules as rules
 use Rattle.state.specs.declared.MemoryAllocator.{MemoryAllocator}
-use Rattle.serving.specs.declared.Outcome.{Outcome}
+use Rattle.calls.specs.declared.Outcome.{Outcome}
 use Rattle.serving.specs.Made.{judged}
 
 abbrev pub allocateOf : ℕ → MemoryAllocator → ℕ → ℕ → Outcome

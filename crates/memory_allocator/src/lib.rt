@@ -1,11 +1,11 @@
 // The allocator: its state goes in by value and comes back by value. A client takes all from here: the types, the calls, the check of a
 // state, its total and its listing.
-pub use accounts::Counted;
 pub use accounts::listing;
 pub use accounts::total;
-pub use answers::Answer;
-pub use requests::Request;
-pub use serving::Outcome;
+pub use calls::Answer;
+pub use calls::Counted;
+pub use calls::Outcome;
+pub use calls::Request;
 pub use serving::serve;
 pub use sound::is_sound;
 pub use state::Address;

@@ -1,4 +1,4 @@
--- Demand 3 in pages of every door whose page calls are the byte calls that they stand for, over an engine that follows the rules. Assumes nothing.
+-- Demand 3 in pages of every door whose page calls are the byte calls that they stand for, over an engine that obeys the rules. Assumes nothing.
 use Prim.Native.Nat.{ℕ, _+_, _-_, _*_, _/_, _%_, _<_, _∣_}
 use mathlib.Core.Bool.{false, not}
 use mathlib.Core.List.{List, [], _∷_, map}
@@ -13,7 +13,7 @@ use Rattle.engine.specs.Engine as engine
 use Rattle.engine.specs.Engine.{Engine, freeIn}
 use Rattle.engine.specs.Demand as bytes
 use Rattle.engine.specs.Demand.{SameFree, SameShelves, Demand}
-use Rattle.engine.proofs.Follows.{Follows}
+use Rattle.engine.proofs.Obeys.{Obeys}
 use Rattle.engine.proofs.Demand.{Stands, stands-next, answer-is, sound, first, left-stands, demand}
 use Rattle.engine.proofs.Multiples.{held-blocks, answer-moves, left-blocks}
 use Rattle.pages.specs.Pages.{page, mostPages, bytesOf}
@@ -30,7 +30,7 @@ pub record Serves (e : Engine) (d : Door e) : Type 0 where
 space : top ≡ mostPages * page
 space = pow-add 2 51 12
 
-module _ {n : ℕ} {e : Engine} (f : Follows n e) (d : Door e) (serves : Serves e d) where
+module _ {n : ℕ} {e : Engine} (f : Obeys n e) (d : Door e) (serves : Serves e d) where
   abbrev whole : Demand e
   whole = demand f
 

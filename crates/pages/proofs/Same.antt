@@ -10,12 +10,12 @@ use Rattle.rules.specs.Rules as rules
 use Rattle.rules.specs.Rules.{Book, refused}
 use Rattle.laws.proofs.Lists.{if, or-e, or-r, T-no, T-true, T-false}
 use Rattle.state.specs.declared.MemoryAllocator.{MemoryAllocator}
-use Rattle.answers.specs.declared.Answer.{Answer}
-use Rattle.answers.specs.declared.Answer.the-variants.{InvalidEntry, InvalidRequest}
+use Rattle.calls.specs.declared.Answer.{Answer}
+use Rattle.calls.specs.declared.Answer.the-variants.{InvalidEntry, InvalidRequest}
 use Rattle.soundness.specs.Paragraph.{Sized}
 use Rattle.soundness.proofs.Exact.{passes-sound}
 use Rattle.serving.specs.Made.{judged}
-use Rattle.serving.specs.declared.Outcome.{Outcome}
+use Rattle.calls.specs.declared.Outcome.{Outcome}
 use Rattle.serving.proofs.Judged.{unsound-judged}
 use Rattle.memory_allocator.specs.Names.{isSound, bookOf, made}
 use Rattle.memory_allocator.specs.Promises.{allocateOf, freeOf}

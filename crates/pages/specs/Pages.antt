@@ -3,9 +3,9 @@ use Prim.Native.Nat.{ℕ, _*_, _%_, _^_}
 use mathlib.Core.Bool.{Bool, cond, not, _||_}
 use lib.Dec.{eqb, ltb}
 use Rattle.state.specs.declared.MemoryAllocator.{MemoryAllocator}
-use Rattle.answers.specs.declared.Answer.{Answer}
-use Rattle.answers.specs.declared.Answer.the-variants.{InvalidEntry, InvalidRequest}
-use Rattle.serving.specs.declared.Outcome.{Outcome}
+use Rattle.calls.specs.declared.Answer.{Answer}
+use Rattle.calls.specs.declared.Answer.the-variants.{InvalidEntry, InvalidRequest}
+use Rattle.calls.specs.declared.Outcome.{Outcome}
 use Rattle.memory_allocator.specs.Names.{isSound}
 use Rattle.memory_allocator.specs.Promises.{allocateOf, freeOf}
 

@@ -1,17 +1,18 @@
 -- A call's answer, by its number. Assumes nothing.
-use mathlib.Core.Path.{_≡_}
+use mathlib.Core.Path.{_≡_, sym, subst}
 use mathlib.Core.Logic.{_≢_}
 use mathlib.Core.List.{List}
 use Prim.Native.Nat.{ℕ, _^_, _<_, _≤_}
 use native.Mathlib.Omega.{arith}
 use lib.ListN.{length}
 use borrow.Author.Tests.{eq-eqb, ne-eqb}
-use Rattle.answers.specs.Answers.{numberOf, addressOf}
-use Rattle.answers.specs.declared.Answer.{Answer}
-use Rattle.answers.specs.declared.Answer.the-variants.{Accepted, NoEntry, InvalidEntry, NoMemory, InvalidRequest}
+use Rattle.calls.specs.Calls.{numberOf, addressOf}
+use Rattle.calls.specs.declared.Answer.{Answer}
+use Rattle.calls.specs.declared.Request.{Request}
+use Rattle.calls.specs.declared.Answer.the-variants.{Accepted, NoEntry, InvalidEntry, NoMemory, InvalidRequest}
 use Rattle.texts.specs.Answers.{okText, okAt, noText, Puts}
 use Rattle.texts.proofs.Buffers.{at-most-48}
-use Rattle.replies.specs.Replies.{line, movedText, placedText, PutsWithin}
+use Rattle.replies.specs.Replies.{line, movedText, placedText, replyText, PutsWithin}
 
 number-small : (k : Answer) → numberOf k < 2 ^ 64
 number-small (Accepted a) = omega arith
@@ -40,3 +41,7 @@ module _ (k : Answer) (m : ℕ) (is : m ≡ numberOf k) where
   pub placed-ok : (out o : List ℕ) (at r a : ℕ) → a < 2 ^ 64 → a ≡ addressOf k → m ≡ 0 → Puts (okAt a) out at o r → PutsWithin line (placedText k) out at o r
   unfolding placedText
   placed-ok out o at r a f e h p = puts-line _ (okAt a) out o at r (rw (← is, ← e, eq-eqb m 0 h)) (at-most-48 a 0 f (omega arith) .2) p
+
+-- the request is what the match found it to be
+pub reply-is : (q q′ : Request) (k : Answer) (out o : List ℕ) (at r : ℕ) → q ≡ q′ → PutsWithin line (replyText q′ k) out at o r → PutsWithin line (replyText q k) out at o r
+reply-is q q′ k out o at r e p = subst (λ (x : Request). PutsWithin line (replyText x k) out at o r) (sym e) p

@@ -4,8 +4,10 @@ use mathlib.Core.Bool.{cond}
 use mathlib.Core.List.{List, [], _++_}
 use lib.Dec.{eqb}
 use lib.ListN.{length, getD}
-use Rattle.answers.specs.Answers.{numberOf, addressOf}
-use Rattle.answers.specs.declared.Answer.{Answer}
+use Rattle.calls.specs.Calls.{numberOf, addressOf}
+use Rattle.calls.specs.declared.Answer.{Answer}
+use Rattle.calls.specs.declared.Request.{Request}
+use Rattle.calls.specs.declared.Request.the-variants as asks
 use Rattle.texts.specs.Answers.{okText, okAt, noText, rangeText, listText, Puts}
 
 -- a call that hands out no address: `ok`, or `no` and the number
@@ -15,6 +17,12 @@ movedText k = cond (eqb (numberOf k) 0) okText (noText (numberOf k))
 -- a call that hands one out: `ok` and the address, or `no` and the number
 unfoldable pub placedText : Answer → List ℕ
 placedText k = cond (eqb (numberOf k) 0) (okAt (addressOf k)) (noText (numberOf k))
+
+-- an allocate hands one out
+unfoldable pub replyText : Request → Answer → List ℕ
+replyText (asks.Allocate z o) k = placedText k
+replyText (asks.Reserve a z o) k = movedText k
+replyText (asks.Free a z) k = movedText k
 
 -- ---- the ranges of two arrays
 

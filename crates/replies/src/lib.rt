@@ -1,5 +1,8 @@
 // The texts of the answers that calls give.
-use answers::Answer;
+use calls::Answer;
+use calls::Request;
+use calls::address_of;
+use calls::number_of;
 use state::POOL;
 use texts::put_list;
 use texts::put_no;
@@ -10,9 +13,8 @@ ghost use mathlib.Core.Path.{_≡_};
 ghost use Prim.Native.Nat.{_+_, _*_, _≤_};
 ghost use lib.ListN.{length};
 ghost use Rattle.state.specs.Shown.{pool};
-ghost use Rattle.answers.specs.Answers.{numberOf, addressOf};
 ghost use Rattle.texts.specs.Answers.{rangeText};
-ghost use Rattle.replies.specs.Replies.{line, PutsWithin, movedText, placedText, tableText};
+ghost use Rattle.replies.specs.Replies.{line, PutsWithin, movedText, placedText, replyText, tableText};
 
 // No line of an answer is longer.
 const LINE: usize = 48;
@@ -20,32 +22,8 @@ const LINE: usize = 48;
 // The head of a listing, and as many ranges as there are records.
 pub const ROOM: usize = LINE * (POOL + 1);
 
-pub fn number_of(answer: Answer) -> u64
-    ensures { λ r. ⌜ r ≡ numberOf answer ⌝ }
-{
-    match answer {
-        Answer::Accepted(_) => 0,
-        Answer::NoEntry => 1,
-        Answer::InvalidEntry => 2,
-        Answer::NoMemory => 3,
-        Answer::InvalidRequest => 4,
-    }
-}
-
-fn address_of(answer: Answer) -> u64
-    ensures { λ r. ⌜ r ≡ addressOf answer ⌝ }
-{
-    match answer {
-        Answer::Accepted(address) => address.0,
-        Answer::NoEntry => 0,
-        Answer::InvalidEntry => 0,
-        Answer::NoMemory => 0,
-        Answer::InvalidRequest => 0,
-    }
-}
-
 // The answer of a call that hands out no address.
-pub fn put_moved(answer: Answer, out: &mut [u8], at: usize) -> usize
+fn put_moved(answer: Answer, out: &mut [u8], at: usize) -> usize
     ensures { λ r. ⌜ PutsWithin line (movedText answer) (now (out .entry)) at (now (out .exit)) r ⌝ }
 {
     let number = number_of(answer);
@@ -56,7 +34,7 @@ pub fn put_moved(answer: Answer, out: &mut [u8], at: usize) -> usize
 }
 
 // The answer of a call that hands out an address.
-pub fn put_placed(answer: Answer, out: &mut [u8], at: usize) -> usize
+fn put_placed(answer: Answer, out: &mut [u8], at: usize) -> usize
     ensures { λ r. ⌜ PutsWithin line (placedText answer) (now (out .entry)) at (now (out .exit)) r ⌝ }
 {
     let number = number_of(answer);
@@ -64,6 +42,17 @@ pub fn put_placed(answer: Answer, out: &mut [u8], at: usize) -> usize
         return put_no(out, at, number);
     }
     put_ok_at(out, at, address_of(answer))
+}
+
+// The answer of any call.
+pub fn put_reply(request: Request, answer: Answer, out: &mut [u8], at: usize) -> usize
+    ensures { λ r. ⌜ PutsWithin line (replyText request answer) (now (out .entry)) at (now (out .exit)) r ⌝ }
+{
+    match request {
+        Request::Allocate(_, _) => put_placed(answer, out, at),
+        Request::Reserve(_, _, _) => put_moved(answer, out, at),
+        Request::Free(_, _) => put_moved(answer, out, at),
+    }
 }
 
 fn put_row(out: &mut [u8], at: usize, start: u64, last: u64) -> usize

@@ -1,23 +1,16 @@
-// A request is one of the three calls with its numbers; here it is served in place.
+// Any of the three calls, in place.
 use allocating::allocate_in;
-use answers::Answer;
+use calls::Answer;
+use calls::Request;
 use freeing::free_in;
 use reserving::reserve_in;
-use state::Address;
 use state::LISTS;
 use state::POOL;
 ghost use Rattle.rules.specs.Rules.{step};
 ghost use Rattle.state.specs.Shown.{pool};
 ghost use Rattle.state.specs.Lent.{HoldsSome};
-ghost use Rattle.answers.specs.Answers.{Follows};
-ghost use Rattle.requests.specs.Requests.{callOf};
-
-// Start, size and order, as far as the call has them.
-pub enum Request {
-    Allocate(u64, u64),
-    Reserve(Address, u64, u64),
-    Free(Address, u64),
-}
+ghost use Rattle.calls.specs.Answers.{Follows};
+ghost use Rattle.calls.specs.Calls.{callOf};
 
 pub fn serve_in(
     total: &mut u64,

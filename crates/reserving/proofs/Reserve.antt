@@ -17,7 +17,8 @@ use Rattle.state.specs.declared.MemoryAllocator.{MemoryAllocator}
 use Rattle.links.specs.Hits.{hitOf}
 use Rattle.links.specs.declared.Hit.the-variants.{At, Nothing}
 use Rattle.take.specs.Take.{Asks, refuses}
-use Rattle.answers.proofs.Endings.{hit-at, hit-nothing, chain-ordered}
+use Rattle.links.proofs.Hits.{hit-at, hit-nothing}
+use Rattle.chain.proofs.Held.{chain-ordered}
 
 module _ (n s z o : ℕ) (b : Book) where
   pub reserve-zero : z ≡ 0 → reserve n s z o b ≡ refused 4 b

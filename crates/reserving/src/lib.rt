@@ -1,6 +1,6 @@
 // `reserve_memory`, in place.
 use align::align_address_and_size;
-use answers::Answer;
+use calls::Answer;
 use chain::is_whole_chain;
 use chain::search_entry_containing_address;
 use entries::Moving;
@@ -16,7 +16,7 @@ ghost use Prim.Native.Nat.{_+_, _<_, _≤_};
 ghost use Rattle.rules.specs.Rules.{top, reserve, reserveFrom, find, contains};
 ghost use Rattle.state.specs.Shown.{pool};
 ghost use Rattle.state.specs.Lent.{HoldsSome};
-ghost use Rattle.answers.specs.Answers.{Follows};
+ghost use Rattle.calls.specs.Answers.{Follows};
 
 // The bytes from `address` to before `past` are taken, if one range has them all and others remain.
 fn reserve_piece(

@@ -1,7 +1,7 @@
 -- From what the calls in place leave to what the allocator promises. Assumes nothing.
 use Prim.Native.Nat.{ℕ, _≤_}
 use mathlib.Core.Bool.{Bool, true, false, cond}
-use mathlib.Core.Path.{_≡_, refl, sym, ap, _∙_}
+use mathlib.Core.Path.{_≡_, sym, ap, _∙_}
 use Rattle.lists.specs.Links.{none}
 use Rattle.rules.specs.Rules.{Book, Answer}
 use Rattle.state.specs.State.{Holds}
@@ -12,19 +12,12 @@ use Rattle.state.proofs.Book.{sound-holds}
 use Rattle.sound.specs.IsSound.{isSound}
 use Rattle.soundness.specs.Paragraph.{Sized}
 use Rattle.soundness.proofs.Exact.{passes-sound}
-use Rattle.answers.specs.Answers.{Answers, numberOf, addressOf}
-use Rattle.answers.specs.declared.Answer as answer
-use Rattle.answers.specs.declared.Answer.the-variants.{Accepted, NoEntry, InvalidEntry, NoMemory, InvalidRequest}
-use Rattle.serving.specs.Made.{answerOf, held, judged}
-use Rattle.serving.specs.declared.Outcome.{Outcome}
-
--- an answer is that of its number and address
-pub answer-is : (k : answer.Answer) → k ≡ answerOf (numberOf k) (addressOf k)
-answer-is (Accepted a) = refl
-answer-is NoEntry = refl
-answer-is InvalidEntry = refl
-answer-is NoMemory = refl
-answer-is InvalidRequest = refl
+use Rattle.calls.specs.Calls.{answerOf}
+use Rattle.calls.specs.Answers.{Answers}
+use Rattle.calls.specs.declared.Answer.the-variants.{InvalidEntry}
+use Rattle.calls.specs.declared.Outcome.{Outcome}
+use Rattle.calls.proofs.Numbers.{answer-is}
+use Rattle.serving.specs.Made.{held, judged}
 
 pub answers-held : (n : ℕ) (w : Answer) (r : Outcome) → Answers n w (r .answer) (r .state) → r ≡ held n w
 answers-held n w r h =

@@ -1,24 +1,15 @@
 -- What any call answers and leaves, for every state. n is the number of records. Assumes nothing.
 use Prim.Native.Nat.{ℕ}
 use mathlib.Core.Bool.{cond}
-use lib.Dec.{eqb}
 use Rattle.rules.specs.Rules as rules
 use Rattle.rules.specs.Rules.{Book}
 use Rattle.state.specs.State.{stateOf}
 use Rattle.state.specs.Sound.{bookOf}
 use Rattle.state.specs.declared.MemoryAllocator.{MemoryAllocator}
 use Rattle.sound.specs.IsSound.{isSound}
-use Rattle.answers.specs.declared.Answer.{Answer}
-use Rattle.answers.specs.declared.Answer.the-variants.{Accepted, NoEntry, InvalidEntry, NoMemory, InvalidRequest}
-use Rattle.serving.specs.declared.Outcome.{Outcome}
-
--- the answer with this number and address
-abbrev pub answerOf : ℕ → ℕ → Answer
-answerOf k a =
-    cond (eqb k 0) (Accepted (record { 0 = a }))
-    (cond (eqb k 1) NoEntry
-    (cond (eqb k 2) InvalidEntry
-    (cond (eqb k 3) NoMemory InvalidRequest)))
+use Rattle.calls.specs.Calls.{answerOf}
+use Rattle.calls.specs.declared.Answer.the-variants.{InvalidEntry}
+use Rattle.calls.specs.declared.Outcome.{Outcome}
 
 -- an answer of the rules, with the state that holds its book
 abbrev pub held : ℕ → rules.Answer → Outcome

@@ -1,6 +1,7 @@
 // The three calls on a state by value, as one.
-use answers::Answer;
-use requests::Request;
+use calls::Answer;
+use calls::Outcome;
+use calls::Request;
 use requests::serve_in;
 use sound::is_sound;
 use state::MemoryAllocator;
@@ -9,14 +10,8 @@ ghost use mathlib.Core.Bool.{true};
 ghost use mathlib.Core.Path.{_≡_};
 ghost use Rattle.state.specs.Shown.{pool};
 ghost use Rattle.sound.specs.IsSound.{isSound};
-ghost use Rattle.requests.specs.Requests.{callOf};
+ghost use Rattle.calls.specs.Calls.{callOf};
 ghost use Rattle.serving.specs.Made.{made};
-
-// An answer beside the state that the call leaves.
-pub struct Outcome {
-    pub answer: Answer,
-    pub state: MemoryAllocator,
-}
 
 // A request of a state that is known to be sound: nothing is checked again.
 pub fn serve_sound(s: MemoryAllocator, request: Request) -> Outcome

@@ -160,6 +160,12 @@ module _ (n : ℕ) (b : Book) (s : Sound n b) where
     };
   }
 
+-- a range of the book stands in its record
+pub stands-at : (n : ℕ) (b : Book) (s : MemoryAllocator) → Holds n b s → (i : ℕ) (r : Range) → i ≡ r .number → In r (b .chain) → (i < n) × (getD (s .start) i 0 ≡ r .start) × (getD (s .end) i 0 ≡ r .last)
+stands-at n b s h i r e m =
+    let q : at (s .start) (s .end) i ≡ r = rw e (h .shape .kept .stand r m) in
+    (rw e (h .shape .sound .good r m .known), ap (λ (z : Range). z .start) q, ap (λ (z : Range). z .last) q)
+
 -- two states that hold one book are one
 pub same-state : (n : ℕ) (b : Book) (s s′ : MemoryAllocator) → Holds n b s → Holds n b s′ → s ≡ s′
 same-state n b s s′ h h′ = holds-state n b s h ∙ sym (holds-state n b s′ h′)

@@ -7,6 +7,7 @@ use Rattle.lines.specs.Fields.{fields, digits, leads, value, numberOf, numbersO
 use Rattle.lines.specs.Script.{said, spoken, lineOf}
 use Rattle.texts.specs.Answers.{digitsIn, digitsOf, ending, okAt, noText, rangeText, listText}
 use Rattle.lines.specs.declared.parse.Line.the-variants as Say
+use Rattle.texts.proofs.Round.{free, allocate, reserve}
 
 -- empty; ` l`; `l `; `f 1  2`; `f<tab>1 2`; `l<CR>`; `l<NUL>`; `f +1 2`; `f -0 2`; `f 00 2`; `f 01 2`; `f 1`; `a 1 2 3`; `l 1`; `F 1 2`; `f 18446744073709551616 1`; `f 1 x`
 abbrev bad : List (List ℕ)
@@ -43,7 +44,7 @@ good =
     (102 ∷ 32 ∷ 49 ∷ 56 ∷ 52 ∷ 52 ∷ 54 ∷ 55 ∷ 52 ∷ 52 ∷ 48 ∷ 55 ∷ 51 ∷ 55 ∷ 48 ∷ 57 ∷ 53 ∷ 53 ∷ 49 ∷ 54 ∷ 49 ∷ 53 ∷ 32 ∷ 49 ∷ []) ∷
     (108 ∷ []) ∷ []
 
-pub all-good : map lineOf good ≡ Say.Free 65536 65536 ∷ Say.Allocate 0 0 ∷ Say.Allocate 1 64 ∷ Say.Reserve 70000 100 12 ∷ Say.Free 18446744073709551615 1 ∷ Say.List ∷ []
+pub all-good : map lineOf good ≡ free 65536 65536 ∷ allocate 0 0 ∷ allocate 1 64 ∷ reserve 70000 100 12 ∷ free 18446744073709551615 1 ∷ Say.List ∷ []
 unfolding fields digits leads value numberOf numbersOf said spoken lineOf
 all-good = refl
 

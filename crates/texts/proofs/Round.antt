@@ -12,8 +12,20 @@ use lib.ListN.{length, length-append}
 use Rattle.lines.specs.Fields.{fields, digit, digits, numbersOf}
 use Rattle.lines.specs.Script.{said, spoken, lineOf}
 use Rattle.texts.specs.Answers.{digitsOf}
-use Rattle.lines.specs.declared.parse.Line.the-variants.{Free, Allocate, Reserve}
+use Rattle.calls.specs.declared.Request.the-variants.{Free, Allocate, Reserve}
+use Rattle.lines.specs.declared.parse.Line.{Line}
+use Rattle.lines.specs.declared.parse.Line.the-variants.{Asks}
 use Rattle.texts.proofs.Decimal.{all-digits, reads-back, at-most-twenty}
+
+-- the line of each call
+abbrev pub free : ℕ → ℕ → Line
+free x y = Asks (Free (record { 0 = x }) y)
+
+abbrev pub allocate : ℕ → ℕ → Line
+allocate x y = Asks (Allocate x y)
+
+abbrev pub reserve : ℕ → ℕ → ℕ → Line
+reserve x y z = Asks (Reserve (record { 0 = x }) y z)
 
 parts : (x y : Bool) → (x && y) ≡ true → (x ≡ true) × (y ≡ true)
 parts true y h = (refl, h)
@@ -52,11 +64,11 @@ module _ (x y : ℕ) (hx : x < 2 ^ 64) (hy : y < 2 ^ 64) where
   unfolding numbersOf
   two-numbers = rw (then (digitsOf x) (digitsOf y) (all-digits x), alone (digitsOf y) (all-digits y), reads-back x hx, reads-back y hy)
 
-  pub free-line : lineOf (two 102 x y) ≡ Free x y
+  pub free-line : lineOf (two 102 x y) ≡ free x y
   unfolding lineOf fields spoken said
   free-line = rw (le-leb (length (two 102 x y)) 80 (two-short 102)) (ap (spoken 102) two-numbers)
 
-  pub allocate-line : lineOf (two 97 x y) ≡ Allocate x y
+  pub allocate-line : lineOf (two 97 x y) ≡ allocate x y
   unfolding lineOf fields spoken said
   allocate-line = rw (le-leb (length (two 97 x y)) 80 (two-short 97)) (ap (spoken 97) two-numbers)
 
@@ -69,6 +81,6 @@ module _ (x y : ℕ) (hx : x < 2 ^ 64) (hy : y < 2 ^ 64) where
     three-numbers =
         rw (then (digitsOf x) (digitsOf y ++ (32 ∷ digitsOf z)) (all-digits x), then (digitsOf y) (digitsOf z) (all-digits y), alone (digitsOf z) (all-digits z), reads-back x hx, reads-back y hy, reads-back z hz)
 
-    pub reserve-line : lineOf (three 114 x y z) ≡ Reserve x y z
+    pub reserve-line : lineOf (three 114 x y z) ≡ reserve x y z
     unfolding lineOf fields spoken said
     reserve-line = rw (le-leb (length (three 114 x y z)) 80 three-short) (ap (spoken 114) three-numbers)

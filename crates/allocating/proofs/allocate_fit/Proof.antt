@@ -2,8 +2,9 @@ use mathlib.Core.Path.{refl, sym, _∙_}
 use native.Mathlib.Omega.{arith}
 use borrow.Author.Needs.{needs}
 use Rattle.state.specs.Shown.{pool}
-use Rattle.answers.specs.declared.Answer.the-variants.{NoMemory}
-use Rattle.answers.proofs.Endings.{refusal, moved, unmoved}
+use Rattle.calls.specs.declared.Answer.the-variants.{NoMemory}
+use Rattle.calls.proofs.Endings.{refusal}
+use Rattle.entries.proofs.Endings.{moved, unmoved}
 use Rattle.allocating.proofs.Allocate.{none-fits, fitted, fit-known}
 use Rattle.allocating.proofs.allocate_fit.Statement.{statement}
 use Rattle.allocating.proofs.allocate_fit.Tie as tie

@@ -1,8 +1,8 @@
 use mathlib.Core.Path.{refl}
 use native.Mathlib.Omega.{arith}
 use Rattle.state.specs.Shown.{pool}
-use Rattle.answers.specs.declared.Answer.the-variants.{NoMemory, InvalidRequest}
-use Rattle.answers.proofs.Endings.{refusal, same-answer}
+use Rattle.calls.specs.declared.Answer.the-variants.{NoMemory, InvalidRequest}
+use Rattle.calls.proofs.Endings.{refusal, same-answer}
 use Rattle.allocating.proofs.Allocate.{zero-size, high-order, too-few, searched}
 use Rattle.allocating.proofs.allocate_in.Statement.{statement}
 use Rattle.allocating.proofs.allocate_in.Tie as tie

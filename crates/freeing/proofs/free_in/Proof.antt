@@ -2,8 +2,8 @@ use mathlib.Core.Path.{refl}
 use native.Mathlib.Omega.{arith}
 use borrow.Author.Needs.{needs}
 use Rattle.state.specs.Shown.{pool}
-use Rattle.answers.specs.declared.Answer.the-variants.{InvalidRequest}
-use Rattle.answers.proofs.Endings.{refusal, same-answer}
+use Rattle.calls.specs.declared.Answer.the-variants.{InvalidRequest}
+use Rattle.calls.proofs.Endings.{refusal, same-answer}
 use Rattle.freeing.proofs.Free.{free-zero, free-past, free-passed}
 use Rattle.freeing.proofs.free_in.Statement.{statement}
 use Rattle.freeing.proofs.free_in.Tie as tie

@@ -1,8 +1,10 @@
 use mathlib.Core.Path.{refl, sym, _∙_}
 use borrow.Author.Needs.{needs}
 use Rattle.state.specs.Shown.{pool}
-use Rattle.answers.specs.declared.Answer.the-variants.{InvalidRequest}
-use Rattle.answers.proofs.Endings.{refusal, moved, unmoved, chain-ordered, chain-placed}
+use Rattle.calls.specs.declared.Answer.the-variants.{InvalidRequest}
+use Rattle.calls.proofs.Endings.{refusal}
+use Rattle.entries.proofs.Endings.{moved, unmoved}
+use Rattle.chain.proofs.Held.{chain-ordered, chain-placed}
 use Rattle.freeing.proofs.Free.{free-overlaps, free-answer, offers}
 use Rattle.freeing.proofs.free_piece.Statement.{statement}
 use Rattle.freeing.proofs.free_piece.Tie as tie

@@ -2,10 +2,10 @@ use mathlib.Core.Path.{_≡_, sym, subst}
 use Rattle.rules.specs.Rules.{Book, step}
 use Rattle.state.specs.Shown.{pool}
 use Rattle.state.specs.declared.MemoryAllocator.{MemoryAllocator}
-use Rattle.answers.specs.Answers.{Answers}
-use Rattle.answers.specs.declared.Answer.{Answer}
-use Rattle.requests.specs.Requests.{callOf}
-use Rattle.requests.specs.declared.Request.{Request}
+use Rattle.calls.specs.Answers.{Answers}
+use Rattle.calls.specs.declared.Answer.{Answer}
+use Rattle.calls.specs.Calls.{callOf}
+use Rattle.calls.specs.declared.Request.{Request}
 use borrow.Author.Needs.{needs}
 use Rattle.requests.proofs.serve_in.Statement.{statement}
 use Rattle.requests.proofs.serve_in.Tie as tie

@@ -8,8 +8,8 @@ use borrow.Fn.PlainCycle.{Measures, is, falls, and}
 use Rattle.rules.specs.Rules.{reserve}
 use Rattle.laws.proofs.Facts.{widened}
 use Rattle.state.specs.Shown.{pool}
-use Rattle.answers.specs.declared.Answer.the-variants.{NoMemory, InvalidRequest}
-use Rattle.answers.proofs.Endings.{refusal, same-answer}
+use Rattle.calls.specs.declared.Answer.the-variants.{NoMemory, InvalidRequest}
+use Rattle.calls.proofs.Endings.{refusal, same-answer}
 use Rattle.reserving.proofs.Reserve.{reserve-zero, reserve-order, reserve-few, reserve-past, reserve-plain, Passed}
 use Rattle.reserving.proofs.reserve_in.Reads as reserve-in
 use Rattle.reserving.proofs.reserve_in.Kinds as reserve-in-kinds

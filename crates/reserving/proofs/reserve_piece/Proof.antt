@@ -1,8 +1,10 @@
 use mathlib.Core.Path.{refl, sym, _∙_}
 use borrow.Author.Needs.{needs}
 use Rattle.state.specs.Shown.{pool}
-use Rattle.answers.specs.declared.Answer.the-variants.{InvalidRequest, NoEntry}
-use Rattle.answers.proofs.Endings.{refusal, moved, unmoved, chain-ordered}
+use Rattle.calls.specs.declared.Answer.the-variants.{InvalidRequest, NoEntry}
+use Rattle.calls.proofs.Endings.{refusal}
+use Rattle.entries.proofs.Endings.{moved, unmoved}
+use Rattle.chain.proofs.Held.{chain-ordered}
 use Rattle.reserving.proofs.Reserve.{not-inside, inside}
 use Rattle.reserving.proofs.reserve_piece.Statement.{statement}
 use Rattle.reserving.proofs.reserve_piece.Tie as tie

@@ -1,7 +1,7 @@
 use lib.Dec.{lit≤}
 use Rattle.rules.specs.Rules.{step}
 use Rattle.state.specs.Shown.{pool}
-use Rattle.requests.specs.Requests.{callOf}
+use Rattle.calls.specs.Calls.{callOf}
 use Rattle.soundness.proofs.Owned.{owned-sized}
 use Rattle.serving.proofs.Judged.{book-held, sound-judged}
 use Rattle.serving.proofs.serve_sound.Statement.{statement}

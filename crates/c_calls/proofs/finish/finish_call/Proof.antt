@@ -3,7 +3,7 @@ use mir.Syntax.{w64}
 use mir.Val.{toZ, ofZ}
 use mir.Facts.{toZ-ofZ}
 use Rattle.image_parts.specs.Layout.{current}
-use Rattle.c_calls.specs.CCalls.{signedOf}
+use Rattle.calls.specs.Calls.{signedOf}
 use Rattle.c_calls.proofs.Ways.{refusal-leaves, accepted-leaves}
 use borrow.Author.Needs.{needs}
 use Rattle.c_calls.proofs.finish.finish_call.Statement.{statement}

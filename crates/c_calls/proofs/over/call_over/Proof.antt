@@ -4,7 +4,7 @@ use mir.Syntax.{w64}
 use mir.Facts.{toZ-ofZ}
 use Rattle.image_parts.specs.Layout.{current}
 use Rattle.image.proofs.Fitting.{lawful-current}
-use Rattle.requests.specs.Requests.{callOf}
+use Rattle.calls.specs.Calls.{callOf}
 use Rattle.c_calls.specs.CCalls.{returned}
 use Rattle.c_calls.proofs.Ways.{no-state, call-done, call-finishes, sound-known}
 use borrow.Author.Needs.{needs}

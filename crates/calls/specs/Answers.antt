@@ -1,26 +1,12 @@
--- The answers of the calls, and document 01's number and address for each. Assumes nothing.
+-- What a call in place answers and leaves. Assumes nothing.
 use Prim.Native.Nat.{ℕ}
 use mathlib.Core.Path.{_≡_}
 use Rattle.rules.specs.Rules as rules
 use Rattle.state.specs.State.{Holds}
 use Rattle.state.specs.Lent.{OfLent, turns}
 use Rattle.state.specs.declared.MemoryAllocator.{MemoryAllocator}
-use Rattle.answers.specs.declared.Answer.{Answer}
-use Rattle.answers.specs.declared.Answer.the-variants.{Accepted, NoEntry, InvalidEntry, NoMemory, InvalidRequest}
-
-abbrev pub numberOf : Answer → ℕ
-numberOf (Accepted a) = 0
-numberOf NoEntry = 1
-numberOf InvalidEntry = 2
-numberOf NoMemory = 3
-numberOf InvalidRequest = 4
-
-abbrev pub addressOf : Answer → ℕ
-addressOf (Accepted a) = a .0
-addressOf NoEntry = 0
-addressOf InvalidEntry = 0
-addressOf NoMemory = 0
-addressOf InvalidRequest = 0
+use Rattle.calls.specs.Calls.{numberOf, addressOf}
+use Rattle.calls.specs.declared.Answer.{Answer}
 
 -- k and the state s are what the rules answer, w
 pub record Answers (n : ℕ) (w : rules.Answer) (k : Answer) (s : MemoryAllocator) : Type 0 where

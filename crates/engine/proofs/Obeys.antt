@@ -1,4 +1,4 @@
--- What is to be shown of an engine, one call at a time: that it follows the rules, with n records. Assumes nothing.
+-- What is to be shown of an engine, one call at a time: that it obeys the rules, with n records. Assumes nothing.
 use Prim.Native.Nat.{ℕ}
 use mathlib.Core.Path.{_≡_}
 use Rattle.rules.specs.Rules as books
@@ -7,7 +7,7 @@ use Rattle.rules.specs.Sound.{Sound}
 use Rattle.engine.specs.Engine.{Engine}
 
 -- each of its states is one of a sound book, and so on along any call
-pub record Follows (n : ℕ) (e : Engine) : Type 1 where
+pub record Obeys (n : ℕ) (e : Engine) : Type 1 where
   pub Of : Book → e .State → Type 0
   pub begins : Of empty (e .new)
   pub answers : (b : Book) (s : e .State) (c : Call) → Sound n b → Of b s → e .answer c s ≡ voucher c (step n c b)

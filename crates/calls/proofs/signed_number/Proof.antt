@@ -3,12 +3,11 @@ use mathlib.Core.Path.{ap, sym, subst, _∙_}
 use mir.Syntax.{w64}
 use mir.Facts.{toZ-pos}
 use Rattle.rules.specs.Rules.{top}
-use Rattle.answers.specs.Answers.{addressOf}
-use Rattle.answers.specs.declared.Answer.{Answer}
-use Rattle.c_calls.specs.CCalls.{signedOf}
+use Rattle.calls.specs.Calls.{addressOf, signedOf}
+use Rattle.calls.specs.declared.Answer.{Answer}
 use borrow.Author.Needs.{needs}
-use Rattle.c_calls.proofs.finish.signed_number.Statement.{statement}
-use Rattle.c_calls.proofs.finish.signed_number.Tie as tie
+use Rattle.calls.proofs.signed_number.Statement.{statement}
+use Rattle.calls.proofs.signed_number.Tie as tie
 
 enum-known-answer : tie.Need-enum-known-answer
 enum-known-answer c = search needs

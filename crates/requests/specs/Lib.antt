@@ -1,2 +1,0 @@
--- What the contract of a served request cites.
-pub mod Requests
