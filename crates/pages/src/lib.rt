@@ -9,7 +9,9 @@ ghost use Rattle.memory_allocator.specs.Names.{pool};
 ghost use Rattle.pages.specs.Pages.{bytesOf, raised, freedBytes, allocatePagesOf, freePagesOf};
 
 pub const PAGE_BYTES: u64 = 4096;
+
 pub const PAGE_ORDER: u64 = 12;
+
 pub const MOST_PAGES: u64 = 2251799813685248;
 
 // The bytes of so many pages; 0, a size that every call refuses, where there are not so many.
