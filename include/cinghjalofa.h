@@ -1,5 +1,5 @@
 /*
- * The memory-range allocator over a byte image that the caller lends: four calls for C99 and C++.
+ * The memory-range allocator over a byte image that the caller lends: six calls for C99 and C++.
  *
  * The image
  *   The whole state lies in CINGHJALOFA_IMAGE_BYTES bytes of the caller's memory. The library keeps nothing between
@@ -14,7 +14,7 @@
  *   Nothing is owed about the contents or about the numbers: every call ends with one of the answers below.
  *
  * The answer
- *   0 or more: accepted. It is the address for cinghjalofa_allocate and 0 for the others.
+ *   0 or more: accepted. It is the address for cinghjalofa_allocate and cinghjalofa_allocate_pages, and 0 for the others.
  *   Below 0: refused, for the first reason that applies in the order in which each function lists them. A refusal
  *   changes no byte of the image. No accepted call writes outside the image.
  *   A slice of another length is refused with -2 before anything else, and before a byte of it is read. An image that
@@ -32,11 +32,15 @@
 /* The length of an image; any other `len` is refused. */
 #define CINGHJALOFA_IMAGE_BYTES 1370
 
+/* The bytes of a page, and how many pages the addresses have. */
+#define CINGHJALOFA_PAGE_BYTES 4096
+#define CINGHJALOFA_MOST_PAGES (UINT64_C(1) << 51)
+
 /* The refusals. */
 #define CINGHJALOFA_NO_ENTRY (-1)        /* a record is needed and none is unused, or the only range would go whole */
 #define CINGHJALOFA_INVALID_ENTRY (-2)   /* the slice is no image of a sound allocator */
 #define CINGHJALOFA_NO_MEMORY (-3)       /* too few free bytes, or no free range fits */
-#define CINGHJALOFA_INVALID_REQUEST (-4) /* size 0, order above 63, or a bad or overlapping range */
+#define CINGHJALOFA_INVALID_REQUEST (-4) /* size or count 0, order above 63, or a bad or overlapping range */
 
 #ifdef __cplusplus
 extern "C" {
@@ -79,6 +83,24 @@ int64_t cinghjalofa_reserve_memory(uint8_t *image, size_t len, uint64_t start, u
  *   -1  the bytes touch no free range and all records are used
  */
 int64_t cinghjalofa_free(uint8_t *image, size_t len, uint64_t start, uint64_t size);
+
+/*
+ * Takes `count` pages and answers the address of the first, a multiple of 4096 and of 2^order. Orders below 12 are
+ * taken as 12.
+ *   -2  len is not CINGHJALOFA_IMAGE_BYTES, or the image is not sound
+ *   -4  count is 0 or above 2^51, or order is above 63
+ *   -3, -1  as cinghjalofa_allocate answers to 4096 * count bytes
+ */
+int64_t cinghjalofa_allocate_pages(uint8_t *image, size_t len, uint64_t count, uint64_t order);
+
+/*
+ * Makes `count` pages from `address` free and joins them with the free ranges they touch. Answers 0.
+ *   -2  len is not CINGHJALOFA_IMAGE_BYTES, or the image is not sound
+ *   -4  address is no multiple of 4096, count is 0 or above 2^51, the pages pass 2^63, or one of their bytes is free
+ *       already
+ *   -1  they touch no free range and all records are used
+ */
+int64_t cinghjalofa_free_pages(uint8_t *image, size_t len, uint64_t address, uint64_t count);
 
 #ifdef __cplusplus
 }

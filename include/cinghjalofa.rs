@@ -1,4 +1,4 @@
-// The memory-range allocator over a byte image that the caller lends: four calls for Rust, `no_std`, edition 2021.
+// The memory-range allocator over a byte image that the caller lends: six calls for Rust, `no_std`, edition 2021.
 // Take the file in as a module, by `#[path = ".."] mod cinghjalofa;` or `mod cinghjalofa { include!(".."); }`, and link
 // with the static library.
 //
@@ -8,7 +8,7 @@
 //   and lent again at another address; the address may have any alignment. `new` makes the first image.
 //
 // The answer
-//   0 or more: accepted. It is the address for `allocate` and 0 for the others.
+//   0 or more: accepted. It is the address for `allocate` and `allocate_pages`, and 0 for the others.
 //   Below 0: refused, for the first reason that applies in the order in which each function lists them. A refusal changes
 //   no byte of the image. No accepted call writes outside the image.
 //   A slice of another length is refused with -2 before anything else, and before a byte of it is read. An image that no
@@ -23,13 +23,18 @@
 /// The length of an image; a slice of any other length is refused.
 pub const IMAGE_BYTES: usize = 1370;
 
+/// The bytes of a page.
+pub const PAGE_BYTES: u64 = 4096;
+/// How many pages the addresses have.
+pub const MOST_PAGES: u64 = 1 << 51;
+
 /// A record is needed and none is unused, or the only range would go whole.
 pub const NO_ENTRY: i64 = -1;
 /// The slice is no image of a sound allocator.
 pub const INVALID_ENTRY: i64 = -2;
 /// Too few free bytes, or no free range fits.
 pub const NO_MEMORY: i64 = -3;
-/// Size 0, order above 63, or a bad or overlapping range.
+/// Size or count 0, order above 63, or a bad or overlapping range.
 pub const INVALID_REQUEST: i64 = -4;
 
 // What a caller of these owes: `image` points to `len` bytes that may be read and written, and that nobody else reads or
@@ -39,6 +44,8 @@ extern "C" {
     pub fn cinghjalofa_allocate(image: *mut u8, len: usize, size: u64, order: u64) -> i64;
     pub fn cinghjalofa_reserve_memory(image: *mut u8, len: usize, start: u64, size: u64, order: u64) -> i64;
     pub fn cinghjalofa_free(image: *mut u8, len: usize, start: u64, size: u64) -> i64;
+    pub fn cinghjalofa_allocate_pages(image: *mut u8, len: usize, count: u64, order: u64) -> i64;
+    pub fn cinghjalofa_free_pages(image: *mut u8, len: usize, address: u64, count: u64) -> i64;
 }
 
 /// Writes the image of the empty allocator over whatever is there, and answers 0.
@@ -78,4 +85,22 @@ pub fn reserve_memory(image: &mut [u8], start: u64, size: u64, order: u64) -> i6
 /// - -1: the bytes touch no free range and all records are used
 pub fn free(image: &mut [u8], start: u64, size: u64) -> i64 {
     unsafe { cinghjalofa_free(image.as_mut_ptr(), image.len(), start, size) }
+}
+
+/// Takes `count` pages and answers the address of the first, a multiple of 4096 and of 2^order. Orders below 12 are taken
+/// as 12.
+/// - -2: the slice is not `IMAGE_BYTES` long, or the image is not sound
+/// - -4: `count` is 0 or above 2^51, or `order` is above 63
+/// - -3, -1: as `allocate` answers to 4096 * `count` bytes
+pub fn allocate_pages(image: &mut [u8], count: u64, order: u64) -> i64 {
+    unsafe { cinghjalofa_allocate_pages(image.as_mut_ptr(), image.len(), count, order) }
+}
+
+/// Makes `count` pages from `address` free and joins them with the free ranges they touch. Answers 0.
+/// - -2: the slice is not `IMAGE_BYTES` long, or the image is not sound
+/// - -4: `address` is no multiple of 4096, `count` is 0 or above 2^51, the pages pass 2^63, or one of their bytes is free
+///   already
+/// - -1: they touch no free range and all records are used
+pub fn free_pages(image: &mut [u8], address: u64, count: u64) -> i64 {
+    unsafe { cinghjalofa_free_pages(image.as_mut_ptr(), image.len(), address, count) }
 }

@@ -16,6 +16,8 @@ int64_t __real_cinghjalofa_new(uint8_t *image, size_t len);
 int64_t __real_cinghjalofa_allocate(uint8_t *image, size_t len, uint64_t size, uint64_t order);
 int64_t __real_cinghjalofa_reserve_memory(uint8_t *image, size_t len, uint64_t start, uint64_t size, uint64_t order);
 int64_t __real_cinghjalofa_free(uint8_t *image, size_t len, uint64_t start, uint64_t size);
+int64_t __real_cinghjalofa_allocate_pages(uint8_t *image, size_t len, uint64_t count, uint64_t order);
+int64_t __real_cinghjalofa_free_pages(uint8_t *image, size_t len, uint64_t address, uint64_t count);
 
 static uint8_t old_image[IMAGE_BYTES];
 
@@ -159,4 +161,26 @@ int64_t __wrap_cinghjalofa_free(uint8_t *image, size_t len, uint64_t start, uint
     int64_t refusal = begin_request(image, &len, size, 0);
 
     return refusal != GO_ON ? refusal : end(image, len, __real_cinghjalofa_free(image, len, start, size));
+}
+
+int64_t __wrap_cinghjalofa_allocate_pages(uint8_t *image, size_t len, uint64_t count, uint64_t order)
+{
+    int64_t refusal = begin_request(image, &len, count, order);
+
+    if (refusal != GO_ON)
+        return refusal;
+    if (is_breakage("order-as-it-is") && order < 12 && count <= CINGHJALOFA_MOST_PAGES)
+        return end(image, len, __real_cinghjalofa_allocate(image, len, count * CINGHJALOFA_PAGE_BYTES, order));
+    return end(image, len, __real_cinghjalofa_allocate_pages(image, len, count, order));
+}
+
+int64_t __wrap_cinghjalofa_free_pages(uint8_t *image, size_t len, uint64_t address, uint64_t count)
+{
+    int64_t refusal = begin_request(image, &len, count, 0);
+
+    if (refusal != GO_ON)
+        return refusal;
+    if (is_breakage("any-address"))
+        address -= address % CINGHJALOFA_PAGE_BYTES;
+    return end(image, len, __real_cinghjalofa_free_pages(image, len, address, count));
 }

@@ -31,7 +31,6 @@ ELSEWHERE = {
     "src/paging.rs": "MiniVisor's",
     "../shared/docs/src": "where MiniVisor's source may lie",
     "UnsafeCell": "in MiniVisor's module",
-    "allocate_pages": "in MiniVisor's crate root",
     "set_range": "in MiniVisor's module",
     "compiler_builtins": "Rust's",
     "/dev/null": "the system's",

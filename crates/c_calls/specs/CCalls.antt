@@ -12,6 +12,7 @@ use Rattle.calls.specs.Calls.{addressOf, isAccepted, signedOf}
 use Rattle.calls.specs.declared.Answer.the-variants.{Accepted, InvalidEntry}
 use Rattle.serving.specs.Made.{made}
 use Rattle.calls.specs.declared.Outcome.{Outcome}
+use Rattle.pages.specs.Calls.{PageCall, AllocatePages, FreePages, byteCall}
 use Rattle.image_parts.specs.Layout.{Layout, imageSize}
 use Rattle.image.specs.Writing.{imageOf}
 use Rattle.image.specs.Reading.{readingOf}
@@ -44,6 +45,16 @@ reserveOver f a z o l = callOver f (Reserve a z o) l
 
 abbrev pub freeOver : Layout → ℕ → ℕ → List ℕ → Returned
 freeOver f a z l = callOver f (Free a z) l
+
+-- a page call is one call, of so many bytes (`pages-read` has the lines of the page calls in its place)
+abbrev pub pagesOver : Layout → PageCall → List ℕ → Returned
+pagesOver f p l = callOver f (byteCall p) l
+
+abbrev pub allocatePagesOver : Layout → ℕ → ℕ → List ℕ → Returned
+allocatePagesOver f c o l = pagesOver f (AllocatePages c o) l
+
+abbrev pub freePagesOver : Layout → ℕ → ℕ → List ℕ → Returned
+freePagesOver f a c l = pagesOver f (FreePages a c) l
 
 -- the outcome of `new`
 abbrev pub begun : Layout → Outcome

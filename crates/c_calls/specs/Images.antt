@@ -5,11 +5,12 @@ use Rattle.rules.specs.Rules.{Book}
 use Rattle.engine.specs.Engine.{Engine}
 use Rattle.state.specs.Sound.{bookOf}
 use Rattle.calls.specs.Calls.{voucherFrom}
+use Rattle.pages.specs.Calls.{byteCall, Door}
 use Rattle.image_parts.specs.Layout.{Layout, word, totalAt}
 use Rattle.image_parts.specs.Read.{numberIn}
 use Rattle.image.specs.Writing.{Image}
 use Rattle.image.specs.Reading.{readingOf}
-use Rattle.c_calls.specs.CCalls.{callOver, newOver}
+use Rattle.c_calls.specs.CCalls.{callOver, pagesOver, newOver}
 
 -- the book of the state that the image holds
 abbrev pub bookIn : Layout → List ℕ → Book
@@ -29,4 +30,11 @@ images f l = record {
   book = bookIn f;
   total = totalIn;
   Sound = Image f;
+}
+
+-- the two page calls, as a door over them
+abbrev pub pagesOfImages : (f : Layout) (l : List ℕ) → Door (images f l)
+pagesOfImages f l = record {
+  answer = λ p m. voucherFrom (byteCall p) (pagesOver f p m .number);
+  next = λ p m. pagesOver f p m .bytes;
 }

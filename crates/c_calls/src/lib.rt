@@ -8,9 +8,12 @@ use memory_allocator::Outcome;
 use memory_allocator::Request;
 use memory_allocator::new;
 use over::call_over;
+use pages::bytes_of;
+use pages::freed_bytes;
+use pages::raised_order;
 ghost use mathlib.Core.Path.{_≡_};
 ghost use Rattle.image_parts.specs.Layout.{current};
-ghost use Rattle.c_calls.specs.CCalls.{returned, newOver, allocateOver, reserveOver, freeOver};
+ghost use Rattle.c_calls.specs.CCalls.{returned, newOver, allocateOver, reserveOver, freeOver, allocatePagesOver, freePagesOver};
 
 mod finish;
 mod over;
@@ -57,4 +60,24 @@ pub extern "C" fn cinghjalofa_free(image: &mut [u8], start: u64, size: u64) -> i
     ensures { λ r. ⌜ returned r (now (image .exit)) ≡ freeOver current start size (now (image .entry)) ⌝ }
 {
     call_over(image, Request::Free(Address(start), size))
+}
+
+// `count` pages from a multiple of 4096 and of 2^order; the answer is the address of the first byte.
+#[no_mangle]
+pub extern "C" fn cinghjalofa_allocate_pages(image: &mut [u8], count: u64, order: u64) -> i64
+    ensures { λ r. ⌜ returned r (now (image .exit)) ≡ allocatePagesOver current count order (now (image .entry)) ⌝ }
+{
+    call_over(
+        image,
+        Request::Allocate(bytes_of(count), raised_order(order)),
+    )
+}
+
+// `count` pages from `address` become free.
+#[no_mangle]
+pub extern "C" fn cinghjalofa_free_pages(image: &mut [u8], address: u64, count: u64) -> i64
+    ensures { λ r. ⌜ returned r (now (image .exit)) ≡ freePagesOver current address count (now (image .entry)) ⌝ }
+{
+    let start = Address(address);
+    call_over(image, Request::Free(start, freed_bytes(start, count)))
 }

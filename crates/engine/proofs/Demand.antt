@@ -25,12 +25,12 @@ earlier v x d (some w) = refl
 
 module _ {n : ℕ} {e : Engine} (f : Obeys n e) where
   -- the state is one of a sound book
-  record Stands (s : e .State) : Type 0 where
-    held : Book
-    good : Sound n held
-    of : f .Of held s
+  pub record Stands (s : e .State) : Type 0 where
+    pub held : Book
+    pub good : Sound n held
+    pub of : f .Of held s
 
-  abbrev stands-next : (c : Call) (s : e .State) → Stands s → Stands (e .next c s)
+  abbrev pub stands-next : (c : Call) (s : e .State) → Stands s → Stands (e .next c s)
   stands-next c s h = record { held = step n c (h .held) .book; good = step-sound n (h .held) c (h .good); of = f .leaves (h .held) s c (h .good) (h .of) }
 
   stands-after : (s : e .State) (cs : List Call) → Stands s → Stands (after e s cs)
@@ -40,16 +40,16 @@ module _ {n : ℕ} {e : Engine} (f : Obeys n e) where
 
   -- what is known of such a state
   module _ (s : e .State) (h : Stands s) where
-    book-is : e .book s ≡ h .held
+    pub book-is : e .book s ≡ h .held
     book-is = f .shows (h .held) s (h .good) (h .of)
 
     free-is : (x : ℕ) → freeIn e s x ≡ freeAt (h .held) x
     free-is x = ap (λ (b : Book). freeAt b x) book-is
 
-    answer-is : (c : Call) → e .answer c s ≡ voucher c (step n c (h .held))
+    pub answer-is : (c : Call) → e .answer c s ≡ voucher c (step n c (h .held))
     answer-is c = f .answers (h .held) s c (h .good) (h .of)
 
-    sound : e .Sound s
+    pub sound : e .Sound s
     sound = f .sound (h .held) s (h .good) (h .of)
 
     total-counts : e .total s ≡ count top (freeIn e s)
@@ -97,10 +97,10 @@ module _ {n : ℕ} {e : Engine} (f : Obeys n e) where
       ∙ ap (λ (d : Bool). said d (lastCovering x (vouchers e (e .next c s) cs))) (next-free c s h x)
       ∙ earlier (e .answer c s) x (freeIn e s x) (lastCovering x (vouchers e (e .next c s) cs))
 
-  abbrev first : Stands (e .new)
+  abbrev pub first : Stands (e .new)
   first = record { held = empty; good = empty-sound n; of = f .begins }
 
-  left-stands : (cs : List Call) → Stands (left e cs)
+  pub left-stands : (cs : List Call) → Stands (left e cs)
   left-stands cs = stands-after (e .new) cs first
 
   first-free : (x : ℕ) → freeIn e (e .new) x ≡ false

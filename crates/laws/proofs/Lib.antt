@@ -8,3 +8,4 @@ pub mod HandBack
 pub mod Facts
 pub mod Shelf
 pub mod Sums
+pub mod Multiples

@@ -1,4 +1,4 @@
-//! The four C calls of the proved library, their numbers turned into `Result`s.
+//! The six C calls of the proved library, their numbers turned into `Result`s.
 
 use crate::MemoryError;
 
@@ -7,7 +7,7 @@ use crate::MemoryError;
 #[path = "../../../include/cinghjalofa.rs"]
 mod library;
 
-pub(crate) use library::IMAGE_BYTES;
+pub(crate) use library::{IMAGE_BYTES, PAGE_BYTES};
 
 pub(crate) fn new(image: &mut [u8]) -> Result<(), MemoryError> {
     result_of(library::new(image)).map(|_| ())
@@ -23,6 +23,14 @@ pub(crate) fn reserve_memory(image: &mut [u8], start: usize, size: usize, order:
 
 pub(crate) fn free(image: &mut [u8], start: usize, size: usize) -> Result<(), MemoryError> {
     result_of(library::free(image, start as u64, size as u64)).map(|_| ())
+}
+
+pub(crate) fn allocate_pages(image: &mut [u8], count: usize, order: usize) -> Result<usize, MemoryError> {
+    result_of(library::allocate_pages(image, count as u64, order as u64))
+}
+
+pub(crate) fn free_pages(image: &mut [u8], address: usize, count: usize) -> Result<(), MemoryError> {
+    result_of(library::free_pages(image, address as u64, count as u64)).map(|_| ())
 }
 
 /// An address, or minus the refusal number. The library gives no other number; one would mean another library, and

@@ -16,6 +16,9 @@ use image::Image;
 /// The length of an image.
 pub const IMAGE_BYTES: usize = calls::IMAGE_BYTES;
 
+/// The bytes of a page.
+pub const PAGE_BYTES: usize = calls::PAGE_BYTES as usize;
+
 /// Why a call was refused. A refused call has changed nothing.
 #[derive(Clone, Copy, PartialEq, Eq, Debug)]
 pub enum MemoryError {
@@ -25,7 +28,7 @@ pub enum MemoryError {
     InvalidEntry,
     /// Too few bytes are free, or no free range fits.
     NoMemory,
-    /// Size 0, an order above 63, a bad or overlapping range, or a listing slice that is too short.
+    /// Size or count 0, an order above 63, a bad or overlapping range, or a listing slice that is too short.
     InvalidRequest,
 }
 
@@ -140,6 +143,26 @@ impl MemoryAllocator {
         calls::free(&mut self.image, start, size)
     }
 
+    /// Takes `count` pages at a multiple of [`PAGE_BYTES`] and of 2^`align_order`, and returns the address of the first
+    /// byte: what [`MemoryAllocator::allocate`] answers to as many bytes at an order of at least 12. `InvalidRequest` for
+    /// 0 pages, for more than 2^51, and for an order above 63.
+    ///
+    /// ```
+    /// let mut memory = cinghjalofa::MemoryAllocator::new();
+    /// memory.free_pages(0x10000, 16).unwrap();
+    /// assert_eq!(memory.allocate_pages(1, 0), Ok(0x10000));
+    /// assert_eq!(memory.allocate_pages(2, 14), Ok(0x14000));
+    /// ```
+    pub fn allocate_pages(&mut self, count: usize, align_order: usize) -> Result<usize, MemoryError> {
+        calls::allocate_pages(&mut self.image, count, align_order)
+    }
+
+    /// Gives `count` pages to the allocator, no byte of which may be free already. `InvalidRequest` for an address that is
+    /// no multiple of [`PAGE_BYTES`], for 0 pages, and for more than 2^51.
+    pub fn free_pages(&mut self, address: usize, count: usize) -> Result<(), MemoryError> {
+        calls::free_pages(&mut self.image, address, count)
+    }
+
     /// The number of free bytes.
     pub fn total(&self) -> usize {
         image::total(&self.image)
@@ -222,6 +245,16 @@ impl<'a> LentAllocator<'a> {
     /// See [`MemoryAllocator::free`].
     pub fn free(&mut self, start: usize, size: usize) -> Result<(), MemoryError> {
         calls::free(self.image, start, size)
+    }
+
+    /// See [`MemoryAllocator::allocate_pages`].
+    pub fn allocate_pages(&mut self, count: usize, align_order: usize) -> Result<usize, MemoryError> {
+        calls::allocate_pages(self.image, count, align_order)
+    }
+
+    /// See [`MemoryAllocator::free_pages`].
+    pub fn free_pages(&mut self, address: usize, count: usize) -> Result<(), MemoryError> {
+        calls::free_pages(self.image, address, count)
     }
 
     /// See [`MemoryAllocator::total`].

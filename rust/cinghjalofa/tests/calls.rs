@@ -1,8 +1,9 @@
-//! Document 01's examples and limits, by the crate's own types.
+//! Document 01's examples and limits, and those of the page calls, by the crate's own types.
 
-use cinghjalofa::{FreeRange, MemoryAllocator, MemoryError};
+use cinghjalofa::{FreeRange, LentAllocator, MemoryAllocator, MemoryError, IMAGE_BYTES, PAGE_BYTES};
 
 const TOP: usize = 1 << 63;
+const MOST_PAGES: usize = 1 << 51;
 
 /// An allocator to which these ranges, as start and size, were given.
 fn with_free(ranges: &[(usize, usize)]) -> MemoryAllocator {
@@ -85,4 +86,56 @@ fn a_listing_writes_all_or_nothing() {
     assert_eq!((starts, lasts), ([8192, 40960, 7], [12287, 45055, 7]));
     assert_eq!(memory.listing(&mut starts[..2], &mut lasts[..2]), Ok(2));
     assert_eq!(MemoryAllocator::new().listing(&mut [], &mut []), Ok(0));
+}
+
+#[test]
+fn pages_are_counted_and_bytes_addressed() {
+    let mut memory = MemoryAllocator::new();
+    assert_eq!(memory.free_pages(4096, 2), Ok(()));
+    assert_eq!(ranges_of(&memory), [(4096, 4096 + 2 * PAGE_BYTES - 1)]);
+    assert_eq!(memory.allocate_pages(1, 12), Ok(4096));
+    assert_eq!(memory.free_pages(4096, 1), Ok(()));
+    assert_eq!(memory.free_pages(4096, 1), Err(MemoryError::InvalidRequest));
+    assert_eq!(with_free(&[(1, 12287)]).allocate_pages(1, 0), Ok(4096));
+    assert_eq!(with_free(&[(1, 12287)]).allocate(4096, 0), Ok(1));
+    assert_eq!(with_free(&[(4096, 16384)]).allocate_pages(1, 13), Ok(8192));
+    assert_eq!(with_free(&[(0, 8192)]).allocate_pages(1, 63), Ok(0));
+    let mut memory = with_free(&[(2048, 8192)]);
+    assert_eq!(memory.allocate_pages(1, 12), Ok(4096));
+    assert_eq!(memory.allocate_pages(1, 12), Err(MemoryError::NoMemory));
+}
+
+#[test]
+fn pages_that_cannot_be() {
+    let mut memory = MemoryAllocator::new();
+    for (count, order) in
+        [(0, 12), (1, 64), (MOST_PAGES + 1, 12), (2 * MOST_PAGES, 12), (usize::MAX, 12), (1, usize::MAX)]
+    {
+        assert_eq!(memory.allocate_pages(count, order), Err(MemoryError::InvalidRequest), "{count} {order}");
+    }
+    for (count, order) in [(1, 12), (MOST_PAGES, 12), (1, 0), (1, 63)] {
+        assert_eq!(memory.allocate_pages(count, order), Err(MemoryError::NoMemory), "{count} {order}");
+    }
+    let frees =
+        [(0, 0), (1, 1), (4095, 1), (0, MOST_PAGES + 1), (4096, MOST_PAGES), (TOP - 4096, 2), (usize::MAX - 4095, 1)];
+    for (address, count) in frees {
+        assert_eq!(memory.free_pages(address, count), Err(MemoryError::InvalidRequest), "{address} {count}");
+    }
+    assert_eq!(memory.image(), MemoryAllocator::new().image());
+    assert_eq!(memory.free_pages(0, MOST_PAGES), Ok(()));
+    assert_eq!((memory.total(), ranges_of(&memory)), (TOP, vec![(0, TOP - 1)]));
+    assert_eq!(memory.allocate_pages(MOST_PAGES, 12), Err(MemoryError::NoMemory));
+    assert_eq!(with_free(&[(2048, 4096)]).free_pages(0, 1), Err(MemoryError::InvalidRequest));
+}
+
+#[test]
+fn pages_of_a_lent_image() {
+    let mut bytes = [0xaa; IMAGE_BYTES];
+    let mut memory = LentAllocator::new(&mut bytes).unwrap();
+    assert_eq!(memory.free_pages(TOP - 4096, 1), Ok(()));
+    assert_eq!(memory.free_pages(0x4000_0001, 1), Err(MemoryError::InvalidRequest));
+    assert_eq!(memory.free_pages(0x4000_0000, 3), Ok(()));
+    assert_eq!(memory.allocate_pages(2, 11), Ok(0x4000_0000));
+    assert_eq!(memory.allocate_pages(0, 11), Err(MemoryError::InvalidRequest));
+    assert_eq!(memory.total(), 2 * PAGE_BYTES);
 }

@@ -66,7 +66,7 @@ void put_image(const uint8_t *image, size_t at)
     memcpy(area + at, image, IMAGE_BYTES);
 }
 
-static const char *const NAMES[] = {"new", "allocate", "reserve_memory", "free"};
+static const char *const NAMES[] = {"new", "allocate", "reserve_memory", "free", "allocate_pages", "free_pages"};
 
 static void describe(struct call call, size_t at, size_t len)
 {
@@ -80,6 +80,8 @@ static int64_t make(struct call call, uint8_t *image, size_t len)
     case NEW: return cinghjalofa_new(image, len);
     case ALLOCATE: return cinghjalofa_allocate(image, len, call.size, call.order);
     case RESERVE: return cinghjalofa_reserve_memory(image, len, call.start, call.size, call.order);
+    case ALLOCATE_PAGES: return cinghjalofa_allocate_pages(image, len, call.size, call.order);
+    case FREE_PAGES: return cinghjalofa_free_pages(image, len, call.start, call.size);
     default: return cinghjalofa_free(image, len, call.start, call.size);
     }
 }

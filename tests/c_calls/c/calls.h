@@ -7,8 +7,9 @@
 #define AREA_BYTES 65536
 #define IMAGE_BYTES CINGHJALOFA_IMAGE_BYTES
 
-enum kind { NEW, ALLOCATE, RESERVE, FREE };
+enum kind { NEW, ALLOCATE, RESERVE, FREE, ALLOCATE_PAGES, FREE_PAGES };
 
+/* size: of the page calls the count of pages */
 struct call {
     enum kind kind;
     uint64_t start, size, order;

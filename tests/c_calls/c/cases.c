@@ -83,6 +83,10 @@ static int play_line(const struct line *line, const char *name)
         play(ALLOCATE, 0, n[0], n[1], n[2], name);
     else if (strcmp(line->word, "r") == 0 && line->count == 4)
         play(RESERVE, n[0], n[1], n[2], n[3], name);
+    else if (strcmp(line->word, "p") == 0 && line->count == 3)
+        play(ALLOCATE_PAGES, 0, n[0], n[1], n[2], name);
+    else if (strcmp(line->word, "q") == 0 && line->count == 3)
+        play(FREE_PAGES, n[0], n[1], 0, n[2], name);
     else if (strcmp(line->word, "fill") == 0 && line->count == 5)
         fill_records(n, name);
     else if (strcmp(line->word, "list") == 0 && line->count >= 2 && line->count == 2 + 2 * n[0])

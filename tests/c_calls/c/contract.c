@@ -14,6 +14,8 @@ static const struct call GOOD[] = {
     {ALLOCATE, 0, 4096, 12},
     {RESERVE, 70000, 100, 12},
     {FREE, 4096, 4096, 0},
+    {ALLOCATE_PAGES, 0, 1, 0},
+    {FREE_PAGES, 4096, 1, 0},
 };
 
 /* Refused by the sample image with -4. */
@@ -26,6 +28,12 @@ static const struct call BAD[] = {
     {FREE, 4096, 0, 0},
     {FREE, UINT64_MAX, UINT64_MAX, 0},
     {FREE, 65536, 1, 0},
+    {ALLOCATE_PAGES, 0, 0, 0},
+    {ALLOCATE_PAGES, 0, CINGHJALOFA_MOST_PAGES + 1, 0},
+    {ALLOCATE_PAGES, 0, 1, 64},
+    {FREE_PAGES, 4096, 0, 0},
+    {FREE_PAGES, 4096 + CINGHJALOFA_PAGE_BYTES / 2, 1, 0},
+    {FREE_PAGES, 65536, 1, 0},
 };
 
 static const size_t WRONG_LENGTHS[] = {0, 1, IMAGE_BYTES - 1, IMAGE_BYTES + 1, 4096};
@@ -85,9 +93,10 @@ static void test_lengths(const uint8_t *sample)
 static void test_null(void)
 {
     if (cinghjalofa_new(NULL, 0) != -2 || cinghjalofa_allocate(NULL, 0, 1, 0) != -2 ||
-        cinghjalofa_reserve_memory(NULL, 0, 0, 1, 0) != -2 || cinghjalofa_free(NULL, 0, 0, 1) != -2)
+        cinghjalofa_reserve_memory(NULL, 0, 0, 1, 0) != -2 || cinghjalofa_free(NULL, 0, 0, 1) != -2 ||
+        cinghjalofa_allocate_pages(NULL, 0, 1, 0) != -2 || cinghjalofa_free_pages(NULL, 0, 0, 1) != -2)
         fail("a call over NULL and length 0 did not answer -2");
-    calls_made += 4;
+    calls_made += 6;
 }
 
 static void test_new_at(size_t at)
@@ -108,7 +117,7 @@ static void test_new_at(size_t at)
 /* The same calls give the same answers and the same bytes wherever the image lies. */
 static void test_calls_at(size_t at, const uint8_t *sample, uint8_t after[][IMAGE_BYTES], int is_first)
 {
-    static const int64_t ANSWERS[] = {0, 65536, 0, 0};
+    static const int64_t ANSWERS[] = {0, 65536, 0, 0, 65536, 0};
 
     for (size_t k = 0; k < COUNT(GOOD); k++) {
         fill_area();

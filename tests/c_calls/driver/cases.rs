@@ -36,6 +36,8 @@ impl Player<'_> {
             ("f", &[start, size]) => self.play(Call::Free { start, size }, answer),
             ("a", &[size, order]) => self.play(Call::Allocate { size, order }, answer),
             ("r", &[start, size, order]) => self.play(Call::Reserve { start, size, order }, answer),
+            ("p", &[count, order]) => self.play(Call::AllocatePages { count, order }, answer),
+            ("q", &[address, count]) => self.play(Call::FreePages { address, count }, answer),
             ("fill", &[step, offset, first, last, size]) => {
                 (first..=last).for_each(|k| self.play(Call::Free { start: step * k + offset, size }, 0))
             }

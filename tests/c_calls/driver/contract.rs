@@ -1,7 +1,7 @@
 //! What holds of every function for every slice: lengths, places, damaged images, and which refusal comes first.
 
 use crate::fields::Fields;
-use crate::lent::{Call, Lent, IMAGE_BYTES};
+use crate::lent::{Call, Lent, IMAGE_BYTES, MOST_PAGES};
 use crate::report::Report;
 
 const WRONG_LENGTHS: [usize; 5] = [0, 1, IMAGE_BYTES - 1, IMAGE_BYTES + 1, 4096];
@@ -11,15 +11,17 @@ const LONGEST: usize = 4096;
 const SAMPLE: [(u64, u64); 2] = [(65536, 81919), (131072, 196607)];
 
 /// Accepted by the sample image, with the answers.
-const GOOD: [(Call, i64); 4] = [
+const GOOD: [(Call, i64); 6] = [
     (Call::New, 0),
     (Call::Allocate { size: 4096, order: 12 }, 65536),
     (Call::Reserve { start: 70000, size: 100, order: 12 }, 0),
     (Call::Free { start: 4096, size: 4096 }, 0),
+    (Call::AllocatePages { count: 1, order: 0 }, 65536),
+    (Call::FreePages { address: 4096, count: 1 }, 0),
 ];
 
 /// Refused by the sample image with -4.
-const BAD: [Call; 8] = [
+const BAD: [Call; 14] = [
     Call::Allocate { size: 0, order: 0 },
     Call::Allocate { size: 1, order: 64 },
     Call::Reserve { start: 70000, size: 0, order: 0 },
@@ -28,6 +30,12 @@ const BAD: [Call; 8] = [
     Call::Free { start: 4096, size: 0 },
     Call::Free { start: u64::MAX, size: u64::MAX },
     Call::Free { start: 65536, size: 1 },
+    Call::AllocatePages { count: 0, order: 0 },
+    Call::AllocatePages { count: MOST_PAGES + 1, order: 0 },
+    Call::AllocatePages { count: 1, order: 64 },
+    Call::FreePages { address: 4096, count: 0 },
+    Call::FreePages { address: 6144, count: 1 },
+    Call::FreePages { address: 65536, count: 1 },
 ];
 
 pub fn run(report: &mut Report) -> Result<(), String> {

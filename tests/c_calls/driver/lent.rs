@@ -4,7 +4,7 @@ use crate::report::Report;
 use declared::by_path as cinghjalofa;
 use std::fmt;
 
-pub use cinghjalofa::IMAGE_BYTES;
+pub use cinghjalofa::{IMAGE_BYTES, MOST_PAGES};
 
 const GUARD: u8 = 0xc9;
 const GUARDS: usize = 64;
@@ -15,6 +15,8 @@ pub enum Call {
     Allocate { size: u64, order: u64 },
     Reserve { start: u64, size: u64, order: u64 },
     Free { start: u64, size: u64 },
+    AllocatePages { count: u64, order: u64 },
+    FreePages { address: u64, count: u64 },
 }
 
 impl fmt::Display for Call {
@@ -26,6 +28,8 @@ impl fmt::Display for Call {
                 write!(to, "reserve_memory(start {start}, size {size}, order {order})")
             }
             Call::Free { start, size } => write!(to, "free(start {start}, size {size})"),
+            Call::AllocatePages { count, order } => write!(to, "allocate_pages(count {count}, order {order})"),
+            Call::FreePages { address, count } => write!(to, "free_pages(address {address}, count {count})"),
         }
     }
 }
@@ -82,5 +86,7 @@ fn make(slice: &mut [u8], call: Call) -> i64 {
         Call::Allocate { size, order } => cinghjalofa::allocate(slice, size, order),
         Call::Reserve { start, size, order } => cinghjalofa::reserve_memory(slice, start, size, order),
         Call::Free { start, size } => cinghjalofa::free(slice, start, size),
+        Call::AllocatePages { count, order } => cinghjalofa::allocate_pages(slice, count, order),
+        Call::FreePages { address, count } => cinghjalofa::free_pages(slice, address, count),
     }
 }

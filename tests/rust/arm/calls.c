@@ -13,6 +13,8 @@ int64_t cinghjalofa_new(uint8_t *image, size_t len);
 int64_t cinghjalofa_allocate(uint8_t *image, size_t len, uint64_t size, uint64_t order);
 int64_t cinghjalofa_reserve_memory(uint8_t *image, size_t len, uint64_t start, uint64_t size, uint64_t order);
 int64_t cinghjalofa_free(uint8_t *image, size_t len, uint64_t start, uint64_t size);
+int64_t cinghjalofa_allocate_pages(uint8_t *image, size_t len, uint64_t count, uint64_t order);
+int64_t cinghjalofa_free_pages(uint8_t *image, size_t len, uint64_t address, uint64_t count);
 
 struct call {
     char kind;
@@ -80,7 +82,7 @@ static uint64_t below(uint64_t *seed, uint64_t limit) { return next_random(seed)
 /* In each odd round pages in a small memory; in the others bytes, and numbers of any magnitude now and then. */
 static struct call random_call(uint64_t *seed, int round) {
     uint64_t unit = round % 2 ? 4096 : 1;
-    struct call call = {"faaffr"[below(seed, 6)], below(seed, 600) * unit, (1 + below(seed, 12)) * unit, below(seed, 16)};
+    struct call call = {"faaffrpq"[below(seed, 8)], below(seed, 600) * unit, (1 + below(seed, 12)) * unit, below(seed, 16)};
     if (below(seed, 2)) call.order = 0;
     if (round % 2 == 0 && below(seed, 8) == 0) call.start = next_random(seed) >> below(seed, 64);
     if (round % 2 == 0 && below(seed, 8) == 0) call.size = next_random(seed) >> below(seed, 64);
@@ -91,6 +93,8 @@ static struct call random_call(uint64_t *seed, int round) {
 static int64_t play(uint8_t *image, const struct call *call) {
     if (call->kind == 'f') return cinghjalofa_free(image, IMAGE, call->start, call->size);
     if (call->kind == 'a') return cinghjalofa_allocate(image, IMAGE, call->size, call->order);
+    if (call->kind == 'p') return cinghjalofa_allocate_pages(image, IMAGE, call->size / 4096, call->order);
+    if (call->kind == 'q') return cinghjalofa_free_pages(image, IMAGE, call->start, call->size / 4096);
     return cinghjalofa_reserve_memory(image, IMAGE, call->start, call->size, call->order);
 }
 
