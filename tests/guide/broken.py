@@ -16,7 +16,7 @@ BROKEN = [
     ("a crate without a place in the map", GUIDE, r"(\ncrates/.*\n).*\n", r"\1", "does not name crates/"),
     ("a link to nothing", GUIDE, r"\(#", "(#no-", "the link leads to #no-"),
     ("a tool that is not there", GUIDE, r"`tools/", "`tools/no-", "`tools/no-"),
-    ("an edit that is not there", CONTRACTS, r"\n- `(\w+)/", r"\n- `\1/no_", "must-fail/no_"),
+    ("an edit that is not there", CONTRACTS, r"\n- `(\w+)/", r"\n- `\1/no_", "makes the mistake no_"),
     ("an edit with another line", CONTRACTS, r"(\n- `\w+/\w+`, .*: `)", r"\1no ", "changes its line to"),
     ("a contract with another text", CONTRACTS, r"(```rattle\n.*\n *)ensures", r"\1promises", "has no such lines"),
     ("a call with one wrong program", CONTRACTS, r"(Ruled out:\n\n- .*\n)(?:- .*\n)+", r"\1", "fewer than two"),

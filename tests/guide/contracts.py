@@ -2,6 +2,7 @@
 import re
 from dataclasses import dataclass, field
 
+import mistakes
 from names import crates
 
 EDIT = re.compile(r"- `(\w+)/(\w+)`, .*: `(.+)`$")
@@ -56,21 +57,16 @@ def _stands_on(crate, below):
     return found
 
 
-def _new_line(path):
-    lines = [line for line in path.read_text("utf-8").splitlines() if line.startswith("new: ")]
-    return lines[0][5:].strip() if lines else ""
-
-
 def _edit_problem(project, entry, line, text, below):
     parts = EDIT.fullmatch(text)
     if not parts:
         return f"{entry.page}:{line}: a wrong program is written as - `crate/edit`, what it does: `the line that it changes to`"
     crate, name, new = parts.groups()
-    path = project / "crates" / crate / "must-fail" / f"{name}.edit"
-    if not path.is_file():
-        return f"{entry.page}:{line}: there is no {path.relative_to(project)}"
-    if _new_line(path) != new:
-        return f"{entry.page}:{line}: {path.relative_to(project)} changes its line to `{_new_line(path)}`"
+    mistake = mistakes.find(project, crate, name)
+    if not mistake:
+        return f"{entry.page}:{line}: no edit in crates/{crate}/must-fail makes the mistake {name}"
+    if mistake.new.strip() != new:
+        return f"{entry.page}:{line}: {mistake.file.relative_to(project)} changes its line to `{mistake.new.strip()}`"
     if crate not in {entry.crate} | _stands_on(entry.crate, below):
         return f"{entry.page}:{line}: {entry.crate} does not stand on {crate}, so the edit says nothing of {entry.call}"
     return None
@@ -117,6 +113,6 @@ def notes(project, pages, page):
         if own < 2:
             yield f"{entry.crate}::{entry.call.split('::')[-1]} has {own} edit of its own crate, and {len(entry.edits) - own} of layers below"
     named = {span for each in pages for _, span in each.spans()}
-    for path in sorted((project / "crates").glob("*/must-fail/*.edit")):
-        if f"{path.parts[-3]}/{path.stem}" not in named:
-            yield f"{path.relative_to(project)} is named on no page"
+    for mistake in mistakes.of_project(project):
+        if f"{mistake.crate}/{mistake.name}" not in named:
+            yield f"{mistake.name} of {mistake.file.relative_to(project)} is named on no page"

@@ -2,6 +2,7 @@
 import re
 from functools import lru_cache
 
+import mistakes
 from exceptions import ELSEWHERE, MADE
 
 PROGRAMS = {"rt", "cargo", "gcc", "python3", "git", "bash"}
@@ -104,12 +105,12 @@ class Names:
 
     def _path(self, folder, span):
         crate, _, edit = span.partition("/")
-        if crate in self.crates and (self.project / "crates" / crate / "must-fail" / f"{edit}.edit").is_file():
+        if crate in self.crates and mistakes.find(self.project, crate, edit):
             return None
         if _is_there(self.project, folder, span):
             return None
         if crate in self.crates and re.fullmatch(r"\w+", edit):
-            return f"`{span}`: there is no crates/{crate}/must-fail/{edit}.edit"
+            return f"`{span}`: no edit in crates/{crate}/must-fail makes that mistake"
         return f"`{span}`: there is no such file or folder"
 
     def _item(self, crate, name):
