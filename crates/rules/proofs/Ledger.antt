@@ -2,14 +2,9 @@
 use mathlib.Core.Path.{_≡_, refl}
 use mathlib.Core.List.{map}
 use Rattle.rules.specs.Rules.{records, empty, sum, before, without, put, remove, any, find, lowest, unused, down, up, taken, joined, given, refuse, allocateFrom, allocate, reserveFrom, reserve, free, step}
-use Rattle.rules.specs.Ledger.{Case, bounds, play, table, halves, one-record, exact-tail}
+use Rattle.rules.specs.Ledger.{Case, bounds, play, table}
 
 -- each case prints what the document says
 pub ledger : map (λ (c : Case). play records empty (c .lines)) table ≡ map (λ (c : Case). c .prints) table
 unfolding bounds play table sum before without put remove any find lowest unused down up taken joined given refuse allocateFrom allocate reserveFrom reserve free step
 ledger = refl
-
--- and so do those beside the ledger
-pub beside : (play records empty (halves .lines) ≡ halves .prints) × (play 1 empty (one-record .lines) ≡ one-record .prints) × (play records empty (exact-tail .lines) ≡ exact-tail .prints)
-unfolding bounds play halves one-record exact-tail sum before without put remove any find lowest unused down up taken joined given refuse allocateFrom allocate reserveFrom reserve free step
-beside = (refl, refl, refl)

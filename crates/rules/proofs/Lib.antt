@@ -1,2 +1,3 @@
--- The ledger's claim.
+-- The ledger's claim, and those about the cases beside it.
 pub mod Ledger
+pub mod Trials

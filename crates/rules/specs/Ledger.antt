@@ -24,22 +24,22 @@ play n b [] = []
 play n b (call c ∷ ls) = (step n c b .number ∷ step n c b .address ∷ []) ∷ play n (step n c b .book) ls
 play n b (l ∷ ls) = (length (b .chain) ∷ total b ∷ bounds (b .chain)) ∷ play n b ls
 
-abbrev f : ℕ → ℕ → Line
+abbrev pub f : ℕ → ℕ → Line
 f s z = call (Free s z)
 
-abbrev a : ℕ → ℕ → Line
+abbrev pub a : ℕ → ℕ → Line
 a z o = call (Allocate z o)
 
-abbrev r : ℕ → ℕ → ℕ → Line
+abbrev pub r : ℕ → ℕ → ℕ → Line
 r s z o = call (Reserve s z o)
 
-abbrev ok : List ℕ
+abbrev pub ok : List ℕ
 ok = 0 ∷ 0 ∷ []
 
-abbrev at : ℕ → List ℕ
+abbrev pub at : ℕ → List ℕ
 at x = 0 ∷ x ∷ []
 
-abbrev nay : ℕ → List ℕ
+abbrev pub nay : ℕ → List ℕ
 nay k = k ∷ 0 ∷ []
 
 abbrev case : List Line → List (List ℕ) → Case
@@ -61,15 +61,3 @@ table =
     ∷ case (f 9223372036854771712 4096 ∷ []) (ok ∷ [])
     ∷ case (f 9223372036854771712 4097 ∷ []) (nay 4 ∷ [])
     ∷ []
-
--- Beside the ledger. After a split into equal halves the high piece, placed last, comes first. A rule that places it before the low one passes every case above.
-unfoldable pub halves : Case
-halves = case (f 0 12288 ∷ r 4096 4096 0 ∷ a 4096 0 ∷ []) (ok ∷ ok ∷ at 8192 ∷ [])
-
--- With a single record: a take that needs a second one is refused, and the range stays as it was.
-unfoldable pub one-record : Case
-one-record = case (f 1024 16384 ∷ a 512 12 ∷ r 4096 512 0 ∷ f 65536 1 ∷ l ∷ []) (ok ∷ nay 1 ∷ nay 1 ∷ nay 1 ∷ (1 ∷ 16384 ∷ 1024 ∷ 17407 ∷ []) ∷ [])
-
--- An aligned request whose tail exactly ends the range is served; then one that leaves a single byte.
-unfoldable pub exact-tail : Case
-exact-tail = case (f 12288 8192 ∷ a 4096 14 ∷ a 4095 0 ∷ l ∷ []) (ok ∷ at 16384 ∷ at 12288 ∷ (1 ∷ 1 ∷ 16383 ∷ 16383 ∷ []) ∷ [])
