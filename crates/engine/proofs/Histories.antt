@@ -1,6 +1,6 @@
 -- Calls that are made otherwise than in one list: demand 3 holds of them too, where they leave the states and vouchers of lists of calls. Assumes nothing.
 use mathlib.Core.List.{List, [], _∷_, _++_}
-use mathlib.Core.Path.{_≡_, refl, sym, ap, subst}
+use mathlib.Core.Path.{_≡_, refl, ap, subst}
 use Rattle.rules.specs.Rules.{Call, Voucher}
 use Rattle.engine.specs.Engine.{Engine, after, vouchers}
 use Rattle.engine.specs.Demand.{DemandOf}
