@@ -1,4 +1,5 @@
--- Wherever a list is cut between two calls, the two parts give the same answers in the same places and the same end state. n is the number of records.
+-- Wherever a list is cut between two calls, the two parts give the same answers in the same places and the same end state; and a list of
+-- one call is that call. n is the number of records.
 -- Assumes nothing.
 use Prim.Native.Nat.{ℕ, _+_, _*_, _-_, _≤_}
 use mathlib.Core.Bool.{true}
@@ -13,27 +14,26 @@ use Rattle.lists.specs.Links.{none}
 use Rattle.state.specs.Sound.{SoundState}
 use Rattle.state.specs.declared.MemoryAllocator.{MemoryAllocator}
 use Rattle.soundness.proofs.Exact.{sound-passes}
+use Rattle.calls.specs.Calls.{callOf, signedOf}
+use Rattle.calls.specs.declared.Request.{Request}
+use Rattle.serving.specs.Made.{made}
 use Rattle.memory_allocator.specs.States.{states}
 use Rattle.listing.specs.Listing.{written}
 use Rattle.batch.specs.InWords.{asked, whole}
-use Rattle.batch.specs.Lists.{servedOf, leftBy, answersOf, fitted, listServed, answered}
+use Rattle.batch.specs.Lists.{leftBy, answersOf, fitted, listServed, answered}
 use Rattle.batch.specs.Histories.{Batch, stateDoor, front, rest, CutAt}
 use Rattle.batch.specs.declared.Asked.{Asked}
+use Rattle.batch.specs.declared.Asked.the-variants.{Is}
 use Rattle.batch.proofs.InWords.{asked-append, whole-append, first-calls}
 use Rattle.batch.proofs.Runs.{left-append, answers-append, answers-length}
 use Rattle.batch.proofs.Going.{and-left, going-room}
-use Rattle.batch.proofs.Histories.{served-sound}
+use Rattle.batch.proofs.Histories.{left-sound}
 
 -- a list that fits
 abbrev pub Fits : Batch → Type 0
 Fits b = fitted (b .words) (length (b .places)) ≡ true
 
 module _ (n : ℕ) (small : n ≤ none) where
-  left-sound : (s : MemoryAllocator) → SoundState n s → (qs : List Asked) → SoundState n (leftBy n s qs)
-  unfolding leftBy
-  left-sound s h [] = h
-  left-sound s h (q ∷ qs) = left-sound (servedOf n s q .state) (served-sound n small s h q) qs
-
   -- a list that fits, on a sound state
   module _ (s : MemoryAllocator) (h : SoundState n s) (b : Batch) (fits : Fits b) where
     left-is : stateDoor n .next b s ≡ leftBy n s (asked (b .words))
@@ -43,6 +43,15 @@ module _ (n : ℕ) (small : n ≤ none) where
     answers-are : stateDoor n .answers b s ≡ written (answersOf n s (asked (b .words))) (b .places)
     unfolding answered
     answers-are = rw (sound-passes n small s h, fits)
+
+    -- A list of one call answers and leaves what that call does.
+    pub single-left : (q : Request) → asked (b .words) ≡ Is q ∷ [] → stateDoor n .next b s ≡ made n s (callOf q) .state
+    unfolding leftBy
+    single-left q e = left-is ∙ ap (leftBy n s) e
+
+    pub single-answer : (q : Request) → asked (b .words) ≡ Is q ∷ [] → stateDoor n .answers b s ≡ written (signedOf (made n s (callOf q) .answer) ∷ []) (b .places)
+    unfolding answersOf
+    single-answer q e = answers-are ∙ ap (λ (qs : List Asked). written (answersOf n s qs) (b .places)) e
 
 module _ (b : Batch) (fits : Fits b) (k : ℕ) (few : k ≤ length (asked (b .words))) where
   asked-cut : asked (b .words) ≡ asked (front k b .words) ++ asked (rest k b .words)

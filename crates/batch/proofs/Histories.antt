@@ -86,9 +86,18 @@ module _ (n : ℕ) (small : n ≤ none) where
     pub served-sound : SoundState n (servedOf n s q .state)
     served-sound = rw served-held (sound-held n small _ (rule-sound (bookOf n s) q (h .book)))
 
+  pub made-sound : (s : MemoryAllocator) → SoundState n s → (c : Call) → SoundState n (made n s c .state)
+  unfolding judged
+  made-sound s h c = rw (sound-passes n small s h) (sound-held n small _ (step-sound n (bookOf n s) c (h .book)))
+
   -- an unknown kind leaves the state
   unknown-left : (s : MemoryAllocator) → SoundState n s → servedOf n s Unknown .state ≡ s
   unknown-left s h = ap (λ (r : Outcome). r .state) (served-held s h Unknown) ∙ h .state
+
+  pub left-sound : (s : MemoryAllocator) → SoundState n s → (qs : List Asked) → SoundState n (leftBy n s qs)
+  unfolding leftBy
+  left-sound s h [] = h
+  left-sound s h (q ∷ qs) = left-sound (servedOf n s q .state) (served-sound s h q) qs
 
   pub left-known : (s : MemoryAllocator) → SoundState n s → (qs : List Asked) → leftBy n s qs ≡ after (states n) s (known qs)
   unfolding leftBy after known
@@ -114,6 +123,14 @@ module _ (n : ℕ) (small : n ≤ none) where
         go : (t : Bool) → fitted (b .words) (length (b .places)) ≡ t → stateDoor n .next b s ≡ after (states n) s (callsIn b)
         go true e = rw (sound-passes n small s h, e) (left-known s h (asked (b .words)))
         go false e = rw (sound-passes n small s h, e)
+
+    pub list-sound : SoundState n (stateDoor n .next b s)
+    unfolding listServed
+    list-sound = go (fitted (b .words) (length (b .places))) refl
+      where
+        go : (t : Bool) → fitted (b .words) (length (b .places)) ≡ t → SoundState n (stateDoor n .next b s)
+        go true e = rw (sound-passes n small s h, e) (left-sound s h (asked (b .words)))
+        go false e = rw (sound-passes n small s h, e) h
 
     pub list-kept : vouchersIn b (stateDoor n .answers b s) ≡ vouchers (states n) s (callsIn b)
     unfolding answered vouchers
