@@ -1,5 +1,7 @@
 -- Laws of the C calls; Demand states demand 3 over the images, Refusals what a refusal leaves.
 pub mod Ways
+pub mod Lists
 pub mod Images
 pub mod Refusals
 pub mod Demand
+pub mod Batches
