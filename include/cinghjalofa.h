@@ -1,5 +1,5 @@
 /*
- * The memory-range allocator over a byte image that the caller lends: six calls for C99 and C++.
+ * The memory-range allocator over a byte image that the caller lends: the calls for C99 and C++.
  *
  * The image
  *   The whole state lies in CINGHJALOFA_IMAGE_BYTES bytes of the caller's memory. The library keeps nothing between
@@ -9,12 +9,15 @@
  *
  * What the caller owes
  *   `image` points to `len` bytes that may be read and written. With `len` 0 it is not followed and may be NULL.
+ *   So of the two slices of cinghjalofa_batch: `calls` points to `words` numbers that may be read, `answers` to `places`
+ *   numbers that may be read and written, each aligned as its numbers are. The three slices do not overlap.
  *   No two calls over the same image run at the same time: the library takes no lock. Calls over different images
  *   may run side by side.
  *   Nothing is owed about the contents or about the numbers: every call ends with one of the answers below.
  *
  * The answer
  *   0 or more: accepted. It is the address for cinghjalofa_allocate and cinghjalofa_allocate_pages, and 0 for the others.
+ *   A list of calls has an answer of its own, and one for each of its calls.
  *   Below 0: refused, for the first reason that applies in the order in which each function lists them. A refusal
  *   changes no byte of the image. No accepted call writes outside the image.
  *   A slice of another length is refused with -2 before anything else, and before a byte of it is read. An image that
@@ -41,6 +44,14 @@
 #define CINGHJALOFA_INVALID_ENTRY (-2)   /* the slice is no image of a sound allocator */
 #define CINGHJALOFA_NO_MEMORY (-3)       /* too few free bytes, or no free range fits */
 #define CINGHJALOFA_INVALID_REQUEST (-4) /* size or count 0, order above 63, or a bad or overlapping range */
+
+/* The kinds of call in a list. */
+#define CINGHJALOFA_FREE 1     /* start, size */
+#define CINGHJALOFA_ALLOCATE 2 /* size, order */
+#define CINGHJALOFA_RESERVE 3  /* start, size, order */
+
+/* The words of a call in a list: its kind, then its numbers as typed. A word that a call does not use is not looked at. */
+#define CINGHJALOFA_CALL_WORDS 4
 
 #ifdef __cplusplus
 extern "C" {
@@ -101,6 +112,18 @@ int64_t cinghjalofa_allocate_pages(uint8_t *image, size_t len, uint64_t count, u
  *   -1  they touch no free range and all records are used
  */
 int64_t cinghjalofa_free_pages(uint8_t *image, size_t len, uint64_t address, uint64_t count);
+
+/*
+ * Serves the `words / 4` calls of a list in order, and writes the answer of each, as the call made singly would answer it,
+ * to its place in `answers`. The image is read, checked and written once, whatever the length of the list. Answers 0,
+ * however many of the calls were refused.
+ *   -2  len is not CINGHJALOFA_IMAGE_BYTES, or the image is not sound
+ *   -4  words is no multiple of 4, or there are fewer places than calls
+ * A refusal of the list changes no byte of image or answers. A call of unknown kind is answered -4 in its place, and those
+ * behind it are served. Places past the list keep their contents. A list may be cut between any two calls: the parts, one
+ * after the other, give the same answers and the same image.
+ */
+int64_t cinghjalofa_batch(uint8_t *image, size_t len, const uint64_t *calls, size_t words, int64_t *answers, size_t places);
 
 #ifdef __cplusplus
 }

@@ -1,4 +1,4 @@
-// The memory-range allocator over a byte image that the caller lends: six calls for Rust, `no_std`, edition 2021.
+// The memory-range allocator over a byte image that the caller lends: the calls for Rust, `no_std`, edition 2021.
 // Take the file in as a module, by `#[path = ".."] mod cinghjalofa;` or `mod cinghjalofa { include!(".."); }`, and link
 // with the static library.
 //
@@ -9,6 +9,7 @@
 //
 // The answer
 //   0 or more: accepted. It is the address for `allocate` and `allocate_pages`, and 0 for the others.
+//   A list of calls has an answer of its own, and one for each of its calls.
 //   Below 0: refused, for the first reason that applies in the order in which each function lists them. A refusal changes
 //   no byte of the image. No accepted call writes outside the image.
 //   A slice of another length is refused with -2 before anything else, and before a byte of it is read. An image that no
@@ -37,8 +38,19 @@ pub const NO_MEMORY: i64 = -3;
 /// Size or count 0, order above 63, or a bad or overlapping range.
 pub const INVALID_REQUEST: i64 = -4;
 
+/// The kinds of call in a list: a free has a start and a size,
+pub const FREE: u64 = 1;
+/// an allocation a size and an order,
+pub const ALLOCATE: u64 = 2;
+/// and a reserve a start, a size and an order.
+pub const RESERVE: u64 = 3;
+
+/// The words of a call in a list: its kind, then its numbers as typed. A word that a call does not use is not looked at.
+pub const CALL_WORDS: usize = 4;
+
 // What a caller of these owes: `image` points to `len` bytes that may be read and written, and that nobody else reads or
-// writes during the call. With `len` 0 it is not followed and may be null.
+// writes during the call. With `len` 0 it is not followed and may be null. So of `calls`, whose numbers are only read, and of
+// `answers`; each is aligned as its numbers are, and the three do not overlap.
 extern "C" {
     pub fn cinghjalofa_new(image: *mut u8, len: usize) -> i64;
     pub fn cinghjalofa_allocate(image: *mut u8, len: usize, size: u64, order: u64) -> i64;
@@ -46,6 +58,14 @@ extern "C" {
     pub fn cinghjalofa_free(image: *mut u8, len: usize, start: u64, size: u64) -> i64;
     pub fn cinghjalofa_allocate_pages(image: *mut u8, len: usize, count: u64, order: u64) -> i64;
     pub fn cinghjalofa_free_pages(image: *mut u8, len: usize, address: u64, count: u64) -> i64;
+    pub fn cinghjalofa_batch(
+        image: *mut u8,
+        len: usize,
+        calls: *const u64,
+        words: usize,
+        answers: *mut i64,
+        places: usize,
+    ) -> i64;
 }
 
 /// Writes the image of the empty allocator over whatever is there, and answers 0.
@@ -103,4 +123,18 @@ pub fn allocate_pages(image: &mut [u8], count: u64, order: u64) -> i64 {
 /// - -1: they touch no free range and all records are used
 pub fn free_pages(image: &mut [u8], address: u64, count: u64) -> i64 {
     unsafe { cinghjalofa_free_pages(image.as_mut_ptr(), image.len(), address, count) }
+}
+
+/// Serves the `calls.len() / 4` calls of a list in order, and writes the answer of each, as the call made singly would answer
+/// it, to its place in `answers`. The image is read, checked and written once, whatever the length of the list. Answers 0,
+/// however many of the calls were refused.
+/// - -2: the slice is not `IMAGE_BYTES` long, or the image is not sound
+/// - -4: the words are no multiple of 4, or there are fewer places than calls
+///
+/// A refusal of the list changes no byte of image or answers. A call of unknown kind is answered -4 in its place, and those
+/// behind it are served. Places past the list keep their contents. A list may be cut between any two calls: the parts, one
+/// after the other, give the same answers and the same image.
+pub fn batch(image: &mut [u8], calls: &[u64], answers: &mut [i64]) -> i64 {
+    let (len, words, places) = (image.len(), calls.len(), answers.len());
+    unsafe { cinghjalofa_batch(image.as_mut_ptr(), len, calls.as_ptr(), words, answers.as_mut_ptr(), places) }
 }

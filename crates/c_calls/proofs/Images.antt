@@ -8,7 +8,7 @@ use Rattle.rules.specs.Rules.{Call}
 use Rattle.state.specs.Sound.{SoundState}
 use Rattle.state.specs.declared.MemoryAllocator.{MemoryAllocator}
 use Rattle.soundness.proofs.Exact.{sound-sized}
-use Rattle.calls.specs.Calls.{numberOf, isAccepted, voucherOf, voucherFrom}
+use Rattle.calls.specs.Calls.{numberOf, isAccepted, signedOf, voucherOf, voucherFrom}
 use Rattle.calls.proofs.Numbers.{signed-voucher}
 use Rattle.serving.specs.Made.{made}
 use Rattle.calls.specs.declared.Outcome.{Outcome}
@@ -21,7 +21,7 @@ use Rattle.c_calls.specs.CCalls.{Returned, finished, over, callOver}
 use Rattle.c_calls.proofs.Ways.{small-pool}
 
 -- over the image of the state that a refusal hands back, every outcome leaves the image of its state
-leaves-image : (f : Layout) (r : Outcome) (s : MemoryAllocator) → (numberOf (r .answer) ≢ 0 → r .state ≡ s) → finished f r (imageOf f s) .bytes ≡ imageOf f (r .state)
+pub leaves-image : (f : Layout) (r : Outcome) (s : MemoryAllocator) → (numberOf (r .answer) ≢ 0 → r .state ≡ s) → finished f r (imageOf f s) .bytes ≡ imageOf f (r .state)
 unfolding finished
 leaves-image f r s h = go (isAccepted (r .answer)) refl
   where
@@ -42,6 +42,9 @@ module _ (f : Layout) (lawful : Lawful f) where
     pub call-bytes : callOver f c (imageOf f s) .bytes ≡ imageOf f (made n s c .state)
     call-bytes = ap (λ (x : Returned). x .bytes) call-image ∙ leaves-image f (made n s c) s (refused-same n (small-pool f lawful) s c (sound-sized n (small-pool f lawful) s h))
 
-    pub call-voucher : voucherFrom c (callOver f c (imageOf f s) .number) ≡ voucherOf c (made n s c .answer)
+    pub call-number : callOver f c (imageOf f s) .number ≡ signedOf (made n s c .answer)
     unfolding finished
-    call-voucher = ap (λ (x : Returned). voucherFrom c (x .number)) call-image ∙ signed-voucher c (made n s c .answer)
+    call-number = ap (λ (x : Returned). x .number) call-image
+
+    pub call-voucher : voucherFrom c (callOver f c (imageOf f s) .number) ≡ voucherOf c (made n s c .answer)
+    call-voucher = ap (voucherFrom c) call-number ∙ signed-voucher c (made n s c .answer)

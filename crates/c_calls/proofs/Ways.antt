@@ -73,19 +73,11 @@ module _ (f : Layout) (l : List ℕ) where
   unfolding newOver over
   new-done x h e = rw (eq-eqb (length l) (imageSize f) h) e
 
--- ---- a call on what was read
+-- ---- what was read
 
-module _ (f : Layout) (c : Call) (l : List ℕ) (a : image.ImageAnswer) (s : MemoryAllocator) (read : handed a s ≡ readingOf f l) where
-  pub no-state : a ≡ image-answer.InvalidEntry → returned (signedOf InvalidEntry) l ≡ callOver f c l
-  unfolding callOver over
-  no-state e = rw (← read, e)
-
-  pub call-done : (r : Outcome) (x : Returned) → a ≡ image-answer.Done → r ≡ made (f .records) s c → x ≡ finished f r l → x ≡ callOver f c l
-  unfolding callOver over
-  call-done r x e er is = rw (← read, e, ← er) is
-
+module _ (f : Layout) (l : List ℕ) (a : image.ImageAnswer) (s : MemoryAllocator) (read : handed a s ≡ readingOf f l) where
   module _ (lawful : Lawful f) (bytes : Bytes l) (e : a ≡ image-answer.Done) where
-    -- what was read is sound, and the image has its length
+    -- it is sound, and the image has its length
     sound-read : SoundState (f .records) s × (length l ≡ imageSize f)
     sound-read =
         let i = accepted-image f lawful l bytes (sym (ap (λ (h : Handed). h .number) read) ∙ ap writing.numberOf e) in
@@ -95,13 +87,26 @@ module _ (f : Layout) (c : Call) (l : List ℕ) (a : image.ImageAnswer) (s : Mem
     pub sound-known : isSound (f .records) s ≡ true
     sound-known = sound-passes (f .records) (small-pool f lawful) s (sound-read .0)
 
-    pub call-finishes : (r : Outcome) → r ≡ made (f .records) s c → Finishes f r l
-    call-finishes r er =
-        let h = sound-read .0 in
+    pub sized-known : length l ≡ imageSize f
+    sized-known = sound-read .1
+
+  -- a call on it
+  module _ (c : Call) where
+    pub no-state : a ≡ image-answer.InvalidEntry → returned (signedOf InvalidEntry) l ≡ callOver f c l
+    unfolding callOver over
+    no-state e = rw (← read, e)
+
+    pub call-done : (r : Outcome) (x : Returned) → a ≡ image-answer.Done → r ≡ made (f .records) s c → x ≡ finished f r l → x ≡ callOver f c l
+    unfolding callOver over
+    call-done r x e er is = rw (← read, e, ← er) is
+
+    pub call-finishes : Lawful f → Bytes l → a ≡ image-answer.Done → (r : Outcome) → r ≡ made (f .records) s c → Finishes f r l
+    call-finishes lawful bytes e r er =
+        let h = sound-read lawful bytes e .0 in
         let n = f .records in
         let b = bookOf n s in
         let small = small-pool f lawful in
         record {
-          sized = sound-read .1;
+          sized = sized-known lawful bytes e;
           below = rw (ap (λ (o : Outcome). addressOf (o .answer)) er ∙ made-address n small s c h) (step-below n b c (h .book));
         }

@@ -2,6 +2,7 @@
 use calls::INVALID_ENTRY;
 use finish::finish_call;
 use image_parts::layout::IMAGE;
+use many::list_over;
 use memory_allocator::Address;
 use memory_allocator::Answer;
 use memory_allocator::Outcome;
@@ -14,8 +15,10 @@ use pages::raised_order;
 ghost use mathlib.Core.Path.{_≡_};
 ghost use Rattle.image_parts.specs.Layout.{current};
 ghost use Rattle.c_calls.specs.CCalls.{returned, newOver, allocateOver, reserveOver, freeOver, allocatePagesOver, freePagesOver};
+ghost use Rattle.c_calls.specs.Lists.{BatchOver};
 
 mod finish;
+mod many;
 mod over;
 
 // The image of the empty allocator, over whatever is there.
@@ -80,4 +83,12 @@ pub extern "C" fn cinghjalofa_free_pages(image: &mut [u8], address: u64, count: 
 {
     let start = Address(address);
     call_over(image, Request::Free(start, freed_bytes(start, count)))
+}
+
+// A list of calls, four words each, whose signed answers go into the places of `answers`; 0 where the list was served.
+#[no_mangle]
+pub extern "C" fn cinghjalofa_batch(image: &mut [u8], calls: &[u64], answers: &mut [i64]) -> i64
+    ensures { λ r. ⌜ BatchOver current (now (image .entry)) (now (calls .entry)) (now (answers .entry)) r (now (image .exit)) (now (answers .exit)) ⌝ }
+{
+    list_over(image, calls, answers)
 }

@@ -2,3 +2,4 @@
 pub mod Obeys
 pub mod Demand
 pub mod Multiples
+pub mod Histories

@@ -13,14 +13,15 @@ use Rattle.listing.specs.Listing.{lastOf, written, Roomy, Wrote}
 use Rattle.listing.proofs.Walk.{Reached, reached-start, start-at, last-at, reached-on, reached-end}
 
 -- k places of xs are written
-abbrev pub partly : List ℕ → ℕ → List ℕ → List ℕ
+abbrev pub partly : {X : Type 0} → List X → ℕ → List X → List X
 partly xs k old = take k xs ++ drop k old
 
-partly-on : (xs old now : List ℕ) (k v : ℕ) → now ≡ partly xs k old → v ≡ getD xs k 0 → k < length xs → k < length old → set now k v ≡ partly xs (k + 1) old
-partly-on xs old now k v e d h g = rw (e, d, add-one k) (simp zero-add at (paste-suc old 0 xs k 0 (omega arith) h))
+module _ {X : Type 0} (xs old now : List X) (k : ℕ) (e : now ≡ partly xs k old) where
+  pub partly-on : (z v : X) → v ≡ getD xs k z → k < length xs → k < length old → set now k v ≡ partly xs (k + 1) old
+  partly-on z v d h g = rw (e, d, add-one k) (simp zero-add at (paste-suc old 0 xs k z (omega arith) h))
 
-partly-all : (xs old now : List ℕ) (k : ℕ) → now ≡ partly xs k old → k ≡ length xs → now ≡ written xs old
-partly-all xs old now k e d = rw (e, d, take-length xs)
+  pub partly-all : k ≡ length xs → now ≡ written xs old
+  partly-all d = rw (e, d, take-length xs)
 
 -- the walk has passed k ranges, come to the record a and written what it passed
 pub record Writes (c : List Range) (starts₀ lasts₀ starts lasts : List ℕ) (k a : ℕ) : Type 0 where
@@ -37,8 +38,8 @@ module _ (n : ℕ) (small : n ≤ none) (c : List Range) (start end next : List 
     writes-on more =
         record {
           reached = reached-on n small c start end next (o .ordered .runs) k a (w .reached) more;
-          starts-now = partly-on (map startOf c) starts₀ starts k _ (w .starts-now) (start-at n small c start end next (o .ordered .runs) k a (w .reached) more) (rw length-map more) (omega arith);
-          lasts-now = partly-on (map lastOf c) lasts₀ lasts k _ (w .lasts-now) (last-at n small c start end next (o .ordered .runs) k a (w .reached) more) (rw length-map more) (omega arith);
+          starts-now = partly-on (map startOf c) starts₀ starts k (w .starts-now) 0 _ (start-at n small c start end next (o .ordered .runs) k a (w .reached) more) (rw length-map more) (omega arith);
+          lasts-now = partly-on (map lastOf c) lasts₀ lasts k (w .lasts-now) 0 _ (last-at n small c start end next (o .ordered .runs) k a (w .reached) more) (rw length-map more) (omega arith);
         }
 
     pub writes-end : a ≡ none → Wrote c starts₀ lasts₀ starts lasts

@@ -22,7 +22,7 @@ unfoldable pub listedOf : List Range → ℕ → ℕ → Listed
 listedOf c m n = cond (short c m n) listed.Short (listed.Count (length c))
 
 -- xs in the first places; those past them keep their contents
-abbrev pub written : List ℕ → List ℕ → List ℕ
+abbrev pub written : {X : Type 0} → List X → List X → List X
 written xs old = xs ++ drop (length xs) old
 
 -- the contents of a slice after the listing: where either is too short, nothing is written

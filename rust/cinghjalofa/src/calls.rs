@@ -1,13 +1,13 @@
-//! The six C calls of the proved library, their numbers turned into `Result`s.
+//! The C calls of the proved library, their numbers turned into `Result`s.
 
 use crate::MemoryError;
 
-// The declarations and, behind safe functions over slices, all `unsafe` of the crate.
+// The declarations, behind safe functions over slices.
 #[allow(dead_code)]
 #[path = "../../../include/cinghjalofa.rs"]
 mod library;
 
-pub(crate) use library::{IMAGE_BYTES, PAGE_BYTES};
+pub(crate) use library::{ALLOCATE, CALL_WORDS, FREE, IMAGE_BYTES, PAGE_BYTES, RESERVE};
 
 pub(crate) fn new(image: &mut [u8]) -> Result<(), MemoryError> {
     result_of(library::new(image)).map(|_| ())
@@ -33,9 +33,13 @@ pub(crate) fn free_pages(image: &mut [u8], address: usize, count: usize) -> Resu
     result_of(library::free_pages(image, address as u64, count as u64)).map(|_| ())
 }
 
+pub(crate) fn batch(image: &mut [u8], calls: &[u64], answers: &mut [i64]) -> Result<(), MemoryError> {
+    result_of(library::batch(image, calls, answers)).map(|_| ())
+}
+
 /// An address, or minus the refusal number. The library gives no other number; one would mean another library, and
 /// then no state is to be trusted.
-fn result_of(answer: i64) -> Result<usize, MemoryError> {
+pub(crate) fn result_of(answer: i64) -> Result<usize, MemoryError> {
     match answer {
         0.. => Ok(answer as usize),
         library::NO_ENTRY => Err(MemoryError::NoEntry),

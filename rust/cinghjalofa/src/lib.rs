@@ -7,9 +7,11 @@ compile_error!("cinghjalofa: addresses have 64 bits");
 
 mod calls;
 mod image;
+mod list;
 mod show;
 
 pub use image::{FreeRange, FreeRanges};
+pub use list::{Call, CallAnswer};
 
 use image::Image;
 
@@ -28,7 +30,7 @@ pub enum MemoryError {
     InvalidEntry,
     /// Too few bytes are free, or no free range fits.
     NoMemory,
-    /// Size or count 0, an order above 63, a bad or overlapping range, or a listing slice that is too short.
+    /// Size or count 0, an order above 63, a bad or overlapping range, or a slice that is too short for a listing or for answers.
     InvalidRequest,
 }
 
@@ -163,6 +165,25 @@ impl MemoryAllocator {
         calls::free_pages(&mut self.image, address, count)
     }
 
+    /// Serves a list of calls in order, and writes the answer of each to its place: the image is read, checked and written once.
+    /// The answers, and the image, are those of the calls made singly, wherever the list is cut.
+    /// `InvalidRequest`, and nothing changed, where there are fewer places than calls; places past the list stay as they are.
+    ///
+    /// ```
+    /// use cinghjalofa::{Call, CallAnswer, MemoryAllocator, MemoryError};
+    ///
+    /// let mut memory = MemoryAllocator::new();
+    /// let calls = [Call::free(0x10000, 0x10000), Call::allocate(0x1000, 0), Call::free(0x10000, 0)];
+    /// let mut answers = [CallAnswer::default(); 3];
+    /// memory.serve(&calls, &mut answers)?;
+    /// assert_eq!(answers[1].result(), Ok(0x10000));
+    /// assert_eq!(answers[2].result(), Err(MemoryError::InvalidRequest));
+    /// # Ok::<(), MemoryError>(())
+    /// ```
+    pub fn serve(&mut self, calls: &[Call], answers: &mut [CallAnswer]) -> Result<(), MemoryError> {
+        list::serve(&mut self.image, calls, answers)
+    }
+
     /// The number of free bytes.
     pub fn total(&self) -> usize {
         image::total(&self.image)
@@ -255,6 +276,11 @@ impl<'a> LentAllocator<'a> {
     /// See [`MemoryAllocator::free_pages`].
     pub fn free_pages(&mut self, address: usize, count: usize) -> Result<(), MemoryError> {
         calls::free_pages(self.image, address, count)
+    }
+
+    /// See [`MemoryAllocator::serve`].
+    pub fn serve(&mut self, calls: &[Call], answers: &mut [CallAnswer]) -> Result<(), MemoryError> {
+        list::serve(self.image, calls, answers)
     }
 
     /// See [`MemoryAllocator::total`].

@@ -21,7 +21,7 @@ serve-sound-requires : tie.Need-serve-sound-requires
 serve-sound-requires c κs =
     let read = c .before .before in
     let known = read .before .before in
-    sound-known current (callOf (known .before .args .request)) _ _ _ (read .read-image .ensures) lawful-current (λ i b. known .slice-known .given i .fits) (c .enum-told .given .1)
+    sound-known current _ _ _ (read .read-image .ensures) lawful-current (λ i b. known .slice-known .given i .fits) (c .enum-told .given .1)
 
 finish-call-requires : tie.Need-finish-call-requires
 finish-call-requires c κs =
@@ -29,7 +29,7 @@ finish-call-requires c κs =
     let told = served .before in
     let read = told .before .before in
     let known = read .before .before in
-    call-finishes current (callOf (known .before .args .request)) _ _ _ (read .read-image .ensures) lawful-current (λ i b. known .slice-known .given i .fits) (told .enum-told .given .1) _
+    call-finishes current _ _ _ (read .read-image .ensures) (callOf (known .before .args .request)) lawful-current (λ i b. known .slice-known .given i .fits) (told .enum-told .given .1) _
     (served .serve-sound .ensures)
 
 enum-told-2 : tie.Need-enum-told-2
@@ -47,7 +47,7 @@ returns c =
     let start = read .before .before .before in
     let result = finished .finish-call in
     ap (λ (i : ℤ). returned i (result .last .1 .0)) (toZ-ofZ {w = w64} (record { sfits = result .ok }))
-    ∙ call-done current (callOf (start .args .request)) _ _ _ (read .read-image .ensures) _ _ (told .enum-told .given .1) (served .serve-sound .ensures) (result .ensures)
+    ∙ call-done current _ _ _ (read .read-image .ensures) (callOf (start .args .request)) _ _ (told .enum-told .given .1) (served .serve-sound .ensures) (result .ensures)
 
 same-length-2 : tie.Need-same-length-2
 same-length-2 c = search needs
@@ -56,7 +56,7 @@ returns-2 : tie.Need-returns-2
 returns-2 c =
     let read = c .before .before in
     let start = read .before .before .before in
-    no-state current (callOf (start .args .request)) _ _ _ (read .read-image .ensures) (c .enum-told2 .given .1)
+    no-state current _ _ _ (read .read-image .ensures) (callOf (start .args .request)) (c .enum-told2 .given .1)
 
 pub call-over-spec : {M : Type 1} → statement M
 call-over-spec =

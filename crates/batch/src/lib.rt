@@ -1,0 +1,171 @@
+// Many calls at a time: a list of calls in words, and a second slice for their answers.
+use calls::Answer;
+use calls::Outcome;
+use calls::Request;
+use calls::signed_number;
+use in_place::serve_words_in;
+use sound::is_sound;
+use state::Address;
+use state::MemoryAllocator;
+use state::RecordIndex;
+ghost use mathlib.Core.Bool.{true};
+ghost use mathlib.Core.Path.{_≡_};
+ghost use Prim.Native.Nat.{_<_};
+ghost use lib.ListN.{length};
+ghost use Rattle.state.specs.Shown.{pool};
+ghost use Rattle.state.specs.Lent.{was};
+ghost use Rattle.sound.specs.IsSound.{isSound};
+ghost use Rattle.batch.specs.InWords.{asked, askedBy, askedAt};
+ghost use Rattle.batch.specs.Lists.{fitted, Served, Serves};
+
+mod in_place;
+
+// A call has this many words: its kind, and three numbers, of which some calls use two.
+pub const CALL_WORDS: usize = 4;
+
+// The kinds.
+pub const FREE: u64 = 1;
+
+pub const ALLOCATE: u64 = 2;
+
+pub const RESERVE: u64 = 3;
+
+pub struct Words {
+    pub kind: u64,
+    pub x: u64,
+    pub y: u64,
+    pub z: u64,
+}
+
+pub enum Asked {
+    Is(Request),
+    Unknown,
+}
+
+fn words_at(calls: &[u64], k: usize) -> Words
+    requires { ⌜ k < length (asked (now calls)) ⌝ }
+    ensures { λ r. ⌜ askedBy r ≡ askedAt (was calls) k ⌝ }
+{
+    let at = k * CALL_WORDS;
+    Words {
+        kind: calls[at],
+        x: calls[at + 1],
+        y: calls[at + 2],
+        z: calls[at + 3],
+    }
+}
+
+fn asked_by(words: Words) -> Asked
+    ensures { λ r. ⌜ r ≡ askedBy words ⌝ }
+{
+    if words.kind == FREE {
+        return Asked::Is(Request::Free(Address(words.x), words.y));
+    }
+    if words.kind == ALLOCATE {
+        return Asked::Is(Request::Allocate(words.x, words.y));
+    }
+    if words.kind == RESERVE {
+        return Asked::Is(Request::Reserve(Address(words.x), words.y, words.z));
+    }
+    Asked::Unknown
+}
+
+// What call k of the list asks for.
+pub fn asked_at(calls: &[u64], k: usize) -> Asked
+    ensures { λ r. ⌜ r ≡ askedAt (was calls) k ⌝ }
+{
+    if k < calls.len() / CALL_WORDS {
+        let words = words_at(calls, k);
+        return asked_by(words);
+    }
+    Asked::Unknown
+}
+
+// The calls of a list that fits, in order, on a state that is known to be sound. The fields are lent as they are: nothing is copied or
+// checked between two calls.
+pub fn serve_list_sound(s: MemoryAllocator, calls: &[u64], answers: &mut [i64]) -> MemoryAllocator
+    requires { ⌜ isSound pool s ≡ true ⌝ }
+    requires { ⌜ fitted (now calls) (length (now answers)) ≡ true ⌝ }
+    ensures { λ r. ⌜ Served pool s (now (calls .entry)) (now (answers .entry)) r (now (answers .exit)) ⌝ }
+{
+    let mut total = s.free_size;
+    let mut first = s.first_entry.0;
+    let mut heads = s.free_list;
+    let mut start = s.start;
+    let mut end = s.end;
+    let mut enabled = s.enabled;
+    let mut previous = s.previous;
+    let mut next = s.next;
+    let mut lprev = s.list_prev;
+    let mut lnext = s.list_next;
+    let count = calls.len() / CALL_WORDS;
+    let mut k: usize = 0;
+    while k < count {
+        let words = words_at(calls, k);
+        let answer = serve_words_in(
+            &mut total,
+            &mut first,
+            &mut heads,
+            &mut start,
+            &mut end,
+            &mut enabled,
+            &mut previous,
+            &mut next,
+            &mut lprev,
+            &mut lnext,
+            words,
+        );
+        let number = signed_number(answer);
+        answers[k] = number;
+        k += 1;
+    }
+    MemoryAllocator {
+        free_size: total,
+        first_entry: RecordIndex(first),
+        free_list: heads,
+        start: start,
+        end: end,
+        enabled: enabled,
+        previous: previous,
+        next: next,
+        list_prev: lprev,
+        list_next: lnext,
+    }
+}
+
+// A list of calls on a state that is known to be sound: nothing is checked again.
+pub fn serve_list_unchecked(s: MemoryAllocator, calls: &[u64], answers: &mut [i64]) -> Outcome
+    requires { ⌜ isSound pool s ≡ true ⌝ }
+    ensures { λ r. ⌜ Serves pool s (now (calls .entry)) (now (answers .entry)) r (now (answers .exit)) ⌝ }
+{
+    if calls.len() % CALL_WORDS != 0 {
+        return Outcome {
+            answer: Answer::InvalidRequest,
+            state: s,
+        };
+    }
+    if answers.len() < calls.len() / CALL_WORDS {
+        return Outcome {
+            answer: Answer::InvalidRequest,
+            state: s,
+        };
+    }
+    let left = serve_list_sound(s, calls, answers);
+    Outcome {
+        answer: Answer::Accepted(Address(0)),
+        state: left,
+    }
+}
+
+// A list of calls on any state: one check, then the calls in order. The signed number of each goes into its place of `answers`.
+pub fn serve_list(s: MemoryAllocator, calls: &[u64], answers: &mut [i64]) -> Outcome
+    ensures { λ r. ⌜ Serves pool s (now (calls .entry)) (now (answers .entry)) r (now (answers .exit)) ⌝ }
+{
+    if is_sound(s) {
+        return serve_list_unchecked(s, calls, answers);
+    }
+    Outcome {
+        answer: Answer::InvalidEntry,
+        state: s,
+    }
+}

@@ -1,0 +1,133 @@
+-- A list of calls on the image of a sound state is the list on that state. So a list may be cut anywhere, to the byte of the image; a list of one call is
+-- that call; and demand 3 holds of lists of lists, from the image's bytes and the answers alone. Assumes nothing.
+use Prim.Native.Nat.{ℕ, _≤_}
+use mathlib.Core.Bool.{Bool, true, false}
+use mathlib.Core.List.{List, [], _∷_, _++_}
+use mathlib.Core.Logic.{_≢_}
+use mathlib.Core.Path.{_≡_, refl, sym, ap, _∙_}
+use lib.IntN.{ℤ}
+use lib.ListN.{length}
+use Rattle.lists.specs.Links.{none}
+use Rattle.rules.specs.Rules.{Call}
+use Rattle.engine.specs.Engine.{after, vouchers}
+use Rattle.engine.specs.Demand.{left, DemandOf}
+use Rattle.state.specs.Sound.{SoundState}
+use Rattle.state.specs.declared.MemoryAllocator.{MemoryAllocator}
+use Rattle.sound.specs.IsSound.{isSound}
+use Rattle.calls.specs.Calls.{callOf, numberOf}
+use Rattle.calls.specs.declared.Request.{Request}
+use Rattle.serving.specs.Made.{made}
+use Rattle.memory_allocator.specs.States.{states}
+use Rattle.batch.specs.InWords.{asked}
+use Rattle.batch.specs.Lists.{fitted, listServed}
+use Rattle.batch.specs.Histories.{Batch, callsIn, vouchersIn, afterLists, vouchersOfLists, stateDoor, front, rest, CutAt}
+use Rattle.batch.specs.declared.Asked.the-variants.{Is}
+use Rattle.batch.proofs.Histories.{of-lists, made-sound, list-left, list-kept, list-sound}
+use Rattle.batch.proofs.Cuts.{Fits, single-left, single-answer, cut}
+use Rattle.listing.specs.Listing.{written}
+use Rattle.image_parts.specs.Layout.{Layout, imageSize}
+use Rattle.image.specs.Writing.{imageOf, Image}
+use Rattle.image.proofs.Fitting.{Lawful}
+use Rattle.image.proofs.Rounds.{read-written}
+use Rattle.c_calls.specs.CCalls.{over, callOver, newOver}
+use Rattle.c_calls.specs.Images.{images}
+use Rattle.c_calls.specs.Lists.{listOver, answersOver, imageDoor}
+use Rattle.c_calls.proofs.Ways.{small-pool}
+use Rattle.c_calls.proofs.Images.{leaves-image, call-bytes, call-number, call-voucher}
+use Rattle.c_calls.proofs.Demand.{demand}
+
+-- a refused list hands back the state
+refused-list : (n : ℕ) (s : MemoryAllocator) (l : List ℕ) (m : ℕ) → numberOf (listServed n s l m .answer) ≢ 0 → listServed n s l m .state ≡ s
+unfolding listServed
+refused-list n s l m = go (isSound n s) refl (fitted l m) refl
+  where
+    go : (t : Bool) → isSound n s ≡ t → (u : Bool) → fitted l m ≡ u → numberOf (listServed n s l m .answer) ≢ 0 → listServed n s l m .state ≡ s
+    go false e u f d = rw e
+    go true e false f d = rw (e, f)
+    go true e true f d = absurd (d (rw (e, f)))
+
+module _ (f : Layout) (lawful : Lawful f) (l : List ℕ) where
+  abbrev n : ℕ
+  n = f .records
+
+  small : n ≤ none
+  small = small-pool f lawful
+
+  -- a list on the image of a sound state
+  module _ (s : MemoryAllocator) (h : SoundState n s) (b : Batch) where
+    pub list-bytes : imageDoor f l .next b (imageOf f s) ≡ imageOf f (stateDoor n .next b s)
+    unfolding listOver over
+    list-bytes = rw (read-written f lawful s h) (leaves-image f _ s (refused-list n s (b .words) (length (b .places))))
+
+    pub list-answers : imageDoor f l .answers b (imageOf f s) ≡ stateDoor n .answers b s
+    unfolding answersOver
+    list-answers = rw (read-written f lawful s h)
+
+    -- A list of one call answers and leaves what that call does, to the byte.
+    module _ (fits : Fits b) (q : Request) (e : asked (b .words) ≡ Is q ∷ []) where
+      pub single-bytes : imageDoor f l .next b (imageOf f s) ≡ callOver f (callOf q) (imageOf f s) .bytes
+      single-bytes = list-bytes ∙ ap (imageOf f) (single-left n small s h b fits q e) ∙ sym (call-bytes f lawful s h (callOf q))
+
+      pub single-number : imageDoor f l .answers b (imageOf f s) ≡ written (callOver f (callOf q) (imageOf f s) .number ∷ []) (b .places)
+      single-number = list-answers ∙ single-answer n small s h b fits q e ∙ ap (λ (i : ℤ). written (i ∷ []) (b .places)) (sym (call-number f lawful s h (callOf q)))
+
+  -- a list that is cut
+  module _ (s : MemoryAllocator) (h : SoundState n s) (b : Batch) (k : ℕ) where
+    abbrev between : MemoryAllocator
+    between = stateDoor n .next (front k b) s
+
+    first : imageDoor f l .next (front k b) (imageOf f s) ≡ imageOf f between
+    first = list-bytes s h (front k b)
+
+    second : imageDoor f l .next (rest k b) (imageDoor f l .next (front k b) (imageOf f s)) ≡ imageOf f (stateDoor n .next (rest k b) between)
+    second = ap (imageDoor f l .next (rest k b)) first ∙ list-bytes between (list-sound n small s h (front k b)) (rest k b)
+
+    both : imageDoor f l .answers (front k b) (imageOf f s) ++ imageDoor f l .answers (rest k b) (imageDoor f l .next (front k b) (imageOf f s))
+        ≡ stateDoor n .answers (front k b) s ++ stateDoor n .answers (rest k b) between
+    both =
+        let p = list-answers s h (front k b) in
+        let q = ap (imageDoor f l .answers (rest k b)) first ∙ list-answers between (list-sound n small s h (front k b)) (rest k b) in
+        (λ i. p i ++ q i)
+
+    -- For every k, the first k calls, and then the rest on the image that they left, give the same answers in the same places and the same bytes.
+    pub cut-image : Fits b → k ≤ length (asked (b .words)) → CutAt (images f l) (imageDoor f l) (imageOf f s) b k
+    cut-image fits few =
+        let c = cut b fits k few n small s h in
+        record { same-state = list-bytes s h b ∙ ap (imageOf f) (c .same-state) ∙ sym second; same-answers = list-answers s h b ∙ c .same-answers ∙ sym both }
+
+  -- calls on the image of a sound state, one by one
+  pub after-images : (s : MemoryAllocator) → SoundState n s → (cs : List Call) → after (images f l) (imageOf f s) cs ≡ imageOf f (after (states n) s cs)
+  unfolding after
+  after-images s h [] = refl
+  after-images s h (c ∷ cs) = ap (λ (m : List ℕ). after (images f l) m cs) (call-bytes f lawful s h c) ∙ after-images (made n s c .state) (made-sound n small s h c) cs
+
+  pub vouchers-images : (s : MemoryAllocator) → SoundState n s → (cs : List Call) → vouchers (images f l) (imageOf f s) cs ≡ vouchers (states n) s cs
+  unfolding vouchers
+  vouchers-images s h [] = refl
+  vouchers-images s h (c ∷ cs) =
+      let first = call-voucher f lawful s h c in
+      let others = ap (λ (m : List ℕ). vouchers (images f l) m cs) (call-bytes f lawful s h c) ∙ vouchers-images (made n s c .state) (made-sound n small s h c) cs in
+      (λ i. first i ∷ others i)
+
+  -- a list on an image
+  module _ (m : List ℕ) (i : Image f m) (b : Batch) where
+    image-left : imageDoor f l .next b m ≡ after (images f l) m (callsIn b)
+    image-left =
+        ap (imageDoor f l .next b) (sym (i .bytes)) ∙ list-bytes (i .state) (i .sound) b ∙ ap (imageOf f) (list-left n small (i .state) (i .sound) b)
+        ∙ sym (after-images (i .state) (i .sound) (callsIn b)) ∙ ap (λ (x : List ℕ). after (images f l) x (callsIn b)) (i .bytes)
+
+    image-kept : vouchersIn b (imageDoor f l .answers b m) ≡ vouchers (images f l) m (callsIn b)
+    image-kept =
+        ap (λ (x : List ℕ). vouchersIn b (imageDoor f l .answers b x)) (sym (i .bytes))
+        ∙ ap (vouchersIn b) (list-answers (i .state) (i .sound) b) ∙ list-kept n small (i .state) (i .sound) b
+        ∙ sym (vouchers-images (i .state) (i .sound) (callsIn b)) ∙ ap (λ (x : List ℕ). vouchers (images f l) x (callsIn b)) (i .bytes)
+
+  -- Demand 3 of lists of lists, from what the call that writes the image of `new` leaves of the bytes l.
+  pub lists-demand : length l ≡ imageSize f
+      → DemandOf (images f l) (List Batch) (afterLists (images f l) (imageDoor f l) (newOver f l .bytes)) (vouchersOfLists (images f l) (imageDoor f l) (newOver f l .bytes))
+  lists-demand sized =
+      let d = demand f lawful l sized in
+      of-lists (images f l) (imageDoor f l) (record {
+        next-is = λ cs b. image-left (left (images f l) cs) (d .always-sound cs) b;
+        kept-is = λ cs b. image-kept (left (images f l) cs) (d .always-sound cs) b;
+      }) d

@@ -1,0 +1,50 @@
+//! Many calls at a time: a call and an answer as the library lays them out, so that slices of them are lent as they are.
+
+use crate::calls;
+use crate::MemoryError;
+
+/// One call of a list for [`MemoryAllocator::serve`](crate::MemoryAllocator::serve).
+#[derive(Clone, Copy, PartialEq, Eq, Debug)]
+#[repr(transparent)]
+pub struct Call([u64; calls::CALL_WORDS]);
+
+/// The answer to one call of a list. The default stands for no answer yet, and reads as `Ok(0)`.
+#[derive(Clone, Copy, PartialEq, Eq, Debug, Default)]
+#[repr(transparent)]
+pub struct CallAnswer(i64);
+
+impl Call {
+    /// What [`MemoryAllocator::free`](crate::MemoryAllocator::free) does.
+    pub const fn free(start: usize, size: usize) -> Self {
+        Self([calls::FREE, start as u64, size as u64, 0])
+    }
+
+    /// What [`MemoryAllocator::allocate`](crate::MemoryAllocator::allocate) does.
+    pub const fn allocate(size: usize, align_order: usize) -> Self {
+        Self([calls::ALLOCATE, size as u64, align_order as u64, 0])
+    }
+
+    /// What [`MemoryAllocator::reserve_memory`](crate::MemoryAllocator::reserve_memory) does.
+    pub const fn reserve_memory(start_address: usize, size: usize, align_order: usize) -> Self {
+        Self([calls::RESERVE, start_address as u64, size as u64, align_order as u64])
+    }
+}
+
+impl CallAnswer {
+    /// The address of an allocation, 0 for another call, or why it was refused.
+    pub fn result(self) -> Result<usize, MemoryError> {
+        calls::result_of(self.0)
+    }
+}
+
+/// Lends the slices as the words that they are.
+pub(crate) fn serve(image: &mut [u8], list: &[Call], answers: &mut [CallAnswer]) -> Result<(), MemoryError> {
+    let words = list.len() * calls::CALL_WORDS; // fits: the slice's bytes are eight times as many
+    // SAFETY: a `Call` is four words and nothing else, and a `CallAnswer` one signed number (`repr(transparent)`), so that the
+    // slices have this many of them; any number may be written. Both borrows last as long as the slices made of them.
+    let (words, places) = unsafe {
+        let places = core::slice::from_raw_parts_mut(answers.as_mut_ptr().cast::<i64>(), answers.len());
+        (core::slice::from_raw_parts(list.as_ptr().cast::<u64>(), words), places)
+    };
+    calls::batch(image, words, places)
+}
