@@ -37,7 +37,7 @@ def misused(folder):
         yield f"{' '.join(words)}", run([RUN, *words], cwd=folder).problem(2, "", MISUSED)
     yield "a file that is not there", run([RUN, folder / "none"]).problem(1, "", f"run: there is no file {folder}/none\n")
     yield "a folder", run([RUN, folder]).problem(1, "", f"run: {folder} is a folder, and calls are read from a file\n")
-    yield "a file without a name", run([RUN, ""]).problem(1, "", "run: there is no file \n")
+    yield "a file without a name", run([RUN, ""]).problem(1, "", "run: the name of the file is empty\n")
 
 
 def nothing_to_answer(folder):
@@ -59,8 +59,10 @@ def invisible(folder):
     """What does not show on a screen; the answers are what they were."""
     texts = {
         "every line with a carriage return": (b"l\r\nl\r\n", "bad\nbad\n", CARRIAGE),
-        "one line with a carriage return": (b"l\r\nl\n", "bad\nlist 0 0\n", None),
-        "the last line without one": (b"l\r\nl", "bad\nlist 0 0\n", None),
+        "one line with a carriage return": (b"l\r\nl\n", "bad\nlist 0 0\n", "carriage return, as on Windows, at the end of 1 of its 2 lines"),
+        "the last line without one": (b"l\r\nl", "bad\nlist 0 0\n", "at the end of 1 of its 2 lines"),
+        "carriage returns for line ends": (b"l\rl\r", "bad\n", "carriage returns and no line ends"),
+        "a carriage return inside a line": (b"l\rl\nl\n", "bad\nlist 0 0\n", None),
         "a byte-order mark": (b"\xef\xbb\xbfl\nl\n", "bad\nlist 0 0\n", MARK),
         "both": (b"\xef\xbb\xbfl\r\n", "bad\n", f"{MARK}.*{CARRIAGE}"),
         "UTF-16": ("\ufeffl\n".encode("utf-16-le"), "bad\nbad\n", f"{MARK} of UTF-16"),
