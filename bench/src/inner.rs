@@ -1,6 +1,6 @@
-//! The proved code behind the C calls, as two more allocators: the by-value core and the in-place calls. bench/inner-archive
-//! gives their functions names that can be linked, and compares with the module the parameters and sizes that are declared
-//! here. Nothing of this file is proved, and it is the benchmark's alone.
+//! The by-value core behind the C calls, as one more allocator. bench/inner-archive gives its functions names that can be
+//! linked, and compares with the module the parameters and sizes that are declared here. Nothing of this file is proved, and
+//! it is the benchmark's alone.
 
 use std::mem::{size_of, MaybeUninit};
 
@@ -49,39 +49,11 @@ struct Request {
 // The sizes that bench/inner-archive has seen in the module: any other is a compile error.
 const _: [u8; 1640] = [0; size_of::<State>()];
 const _: [u8; 1656] = [0; size_of::<Outcome>()];
-const _: [u8; 16] = [0; size_of::<Answer>()];
 
 extern "C" {
     fn bench_new(state: *mut State);
     fn bench_is_sound(state: *const State) -> bool;
     fn bench_serve_sound(outcome: *mut Outcome, state: *const State, request: *const Request);
-}
-
-macro_rules! in_place {
-    ($(fn $name:ident(state, $($own:ident: $kind:ty),*);)*) => {
-        extern "C" {
-            $(fn $name(
-                answer: *mut Answer,
-                total: *mut u64,
-                first: *mut u16,
-                heads: *mut [u16; LISTS],
-                start: *mut [u64; POOL],
-                end: *mut [u64; POOL],
-                enabled: *mut [u8; POOL],
-                previous: *mut [u16; POOL],
-                next: *mut [u16; POOL],
-                list_prev: *mut [u16; POOL],
-                list_next: *mut [u16; POOL],
-                $($own: $kind),*
-            );)*
-        }
-    };
-}
-
-in_place! {
-    fn bench_allocate_in(state, size: u64, order: u64);
-    fn bench_reserve_in(state, address: *const u64, size: u64, order: u64);
-    fn bench_free_in(state, address: *const u64, size: u64);
 }
 
 impl State {
@@ -143,51 +115,5 @@ impl ByValue {
         unsafe { bench_serve_sound(&mut self.outcome, &self.state, &request) };
         self.state = self.outcome.state;
         self.outcome.answer.result()
-    }
-}
-
-/// `allocate_in`, `reserve_in` and `free_in`: the fields of the state are lent, and changed where they lie.
-pub struct InPlace(State);
-
-// SAFETY: the fields are apart; and the state is sound, as the calls require, since it began as `new` and they alone change it.
-macro_rules! lend {
-    ($call:ident, $state:expr, $($own:expr),*) => {{
-        let state = &mut $state;
-        let mut answer = Answer::UNSET;
-        unsafe {
-            $call(
-                &mut answer,
-                &mut state.total,
-                &mut state.first,
-                &mut state.heads,
-                &mut state.start,
-                &mut state.end,
-                &mut state.enabled,
-                &mut state.previous,
-                &mut state.next,
-                &mut state.list_prev,
-                &mut state.list_next,
-                $($own),*
-            );
-        }
-        answer.result()
-    }};
-}
-
-impl InPlace {
-    pub fn new() -> InPlace {
-        InPlace(State::new())
-    }
-
-    pub fn allocate(&mut self, size: usize, order: usize) -> Result<usize, MemoryError> {
-        lend!(bench_allocate_in, self.0, size as u64, order as u64)
-    }
-
-    pub fn reserve_memory(&mut self, start: usize, size: usize, order: usize) -> Result<(), MemoryError> {
-        lend!(bench_reserve_in, self.0, &(start as u64), size as u64, order as u64).map(|_| ())
-    }
-
-    pub fn free(&mut self, start: usize, size: usize) -> Result<(), MemoryError> {
-        lend!(bench_free_in, self.0, &(start as u64), size as u64).map(|_| ())
     }
 }
