@@ -2,8 +2,6 @@
 //! implements `Contender` itself, which is handed the calls in words too.
 
 use crate::call::{Answer, Call};
-#[cfg(feature = "inner")]
-use crate::inner;
 use crate::library;
 use crate::workload::Stretch;
 
@@ -22,12 +20,10 @@ pub trait Contender {
 
 /// `name: an allocator with the module's calls, numbers_drift, what the report calls it`
 macro_rules! contenders {
-    ($($(#[$if:meta])? $name:ident: $allocator:ty, $drift:literal, $title:literal;)*) => {
+    ($($name:ident: $allocator:ty, $drift:literal, $title:literal;)*) => {
         $(
-            $(#[$if])?
             struct $name($allocator);
 
-            $(#[$if])?
             impl Contender for $name {
                 fn name(&self) -> &'static str {
                     $title
@@ -71,7 +67,6 @@ macro_rules! play_one_by_one {
 contenders! {
     Rust: original::memory_allocator::MemoryAllocator, true, "MiniVisor's Rust";
     CCall: cinghjalofa::MemoryAllocator, false, "C call over the image";
-    #[cfg(feature = "inner")] ByValue: inner::ByValue, false, "by-value core, with its check";
 }
 
 /// The C call that serves a list: lists of so many calls, the last of a stretch with what is left.
@@ -117,8 +112,6 @@ pub fn all() -> Vec<Box<dyn Contender>> {
         rust(),
         Box::new(CCall(cinghjalofa::MemoryAllocator::new())),
         Box::new(Lists::of(usize::MAX)),
-        #[cfg(feature = "inner")]
-        Box::new(ByValue(inner::ByValue::new())),
     ]
 }
 

@@ -4,11 +4,9 @@
 //! number of ranges and each contender `ratio`, its time as a multiple of the Rust's; `length`, the same for lists of so many
 //! calls; and `long`, for one list of so many calls, with its free ranges and the rounds.
 //! With --smoke one short round, and for each number of ranges and each contender `equal`, how many answers were compared.
-//! Under emulation nothing is measured. The by-value core behind the C calls plays where the feature `inner` is on.
+//! Under emulation nothing is measured.
 
 mod contenders;
-#[cfg(feature = "inner")]
-mod inner;
 mod machine;
 mod measure;
 mod workload;
