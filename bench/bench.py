@@ -4,12 +4,10 @@ usage: tools/bench [--smoke]
   --smoke    a second's worth of calls, the answers of every path compared and nothing measured or written
 
 The module is found in ../shared/docs/src or in the folder that MINIVISOR_SRC names. The archive is the project's own, made
-anew, and so is that of the paths behind the C calls (bench/inner-archive). With CINGHJALOFA_ARCHIVE another archive is
-measured, those paths are left out, and nothing is written.
+anew. With CINGHJALOFA_ARCHIVE another archive is measured, and nothing is written.
 """
 
 import os
-import shutil
 import subprocess
 import sys
 from pathlib import Path
@@ -43,19 +41,6 @@ def make_archive():
     run([PROJECT / "tools" / "archives"], stdout=subprocess.DEVNULL)
 
 
-def make_inner_archive():
-    """That of the paths behind the C calls; says whether there is one."""
-    if "CINGHJALOFA_ARCHIVE" in os.environ:
-        reason = "CINGHJALOFA_ARCHIVE names an archive, which has the C calls alone"
-    elif shutil.which("rt") is None:
-        reason = "they are made by the Rattle kit, and there is no `rt` on the PATH"
-    else:
-        run([BENCH / "inner-archive"], stdout=subprocess.DEVNULL)
-        return True
-    print(f"*** THE PATHS BEHIND THE C CALLS ARE LEFT OUT: {reason} ***")
-    return False
-
-
 def environment():
     """Folders named from where the caller stands hold in cargo's folders too."""
     settings = {**os.environ, "CARGO_TARGET_DIR": str(BUILT)}
@@ -65,9 +50,8 @@ def environment():
     return settings
 
 
-def build(with_inner):
-    features = ["--features", "inner"] if with_inner else []
-    run(["cargo", "build", "--release", "--offline", "--quiet", *features], cwd=BENCH, env=environment())
+def build():
+    run(["cargo", "build", "--release", "--offline", "--quiet"], cwd=BENCH, env=environment())
     return BUILT / "release" / "bench"
 
 
@@ -91,6 +75,7 @@ def smoke(program):
 def measure(program):
     results = report.Results(run([program], stdout=subprocess.PIPE))
     print(f"Time as a multiple of the module's, on {results.processor}:\n\n{report.table(results)}\n")
+    print(f"{report.lengths(results)}\n\n{report.long_list(results)}\n")
     return results
 
 
@@ -98,7 +83,7 @@ def run_all(is_smoke):
     of_the_project = "CINGHJALOFA_ARCHIVE" not in os.environ
     if of_the_project and not is_smoke:
         make_archive()
-    program = build(make_inner_archive())
+    program = build()
     if is_smoke:
         return smoke(program)
     results = measure(program)

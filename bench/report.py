@@ -14,6 +14,7 @@ class Results:
 
     def __init__(self, printed):
         self.processor, self.effort, self.ratios, self.paths, self.compared = "", [], {}, [], 0
+        self.by_length, self.long = {}, []
         for line in printed.splitlines():
             kind, *fields = line.split("\t")
             if kind == "processor":
@@ -23,6 +24,11 @@ class Results:
             elif kind == "ratio":
                 ranges, path, ratio = fields
                 self.ratios[self.known(path), int(ranges)] = float(ratio)
+            elif kind == "length":
+                length, ratio = fields
+                self.by_length[int(length)] = float(ratio)
+            elif kind == "long":
+                self.long = fields
             elif kind == "equal":
                 _, path, answers = fields
                 self.known(path)
@@ -53,9 +59,24 @@ def table(results):
     return "\n".join([head, rule, *rows])
 
 
+def lengths(results):
+    """How the time grows with the length of a list."""
+    head = "| calls in a list | " + " | ".join(f"{length:,}" for length in results.by_length) + " |"
+    rule = "|---" * (len(results.by_length) + 1) + "|"
+    row = "| time | " + " | ".join(map(shown, results.by_length.values())) + " |"
+    return "\n".join([head, rule, row])
+
+
+def long_list(results):
+    calls, ranges, _, ratio = results.long
+    named = {"1000000": "a million"}.get(calls, calls)
+    return f"{named} calls in one list, about {ranges} free ranges: {ratio} times the Rust's time (wanted: at most 1.5)"
+
+
 def markdown(results, versions):
-    rounds, calls, slack = results.effort
-    baseline, c_call, by_value, in_place = results.paths
+    rounds, calls, stretch, slack = results.effort
+    _, ranges_of_lists, rounds_of_the_long, _ = results.long
+    baseline, c_call, lists = results.paths
     return f"""# Benchmark
 
 Time as a multiple of that of {baseline}, the untouched module, on the same calls in one process, both optimised.
@@ -69,26 +90,29 @@ Measured on: {results.processor}. {versions}.
 ## The paths
 
 - **{baseline}** works in place. Of its state it checks that a link it follows is the number of a record, and no more.
-- **{c_call}** is what a program gets from the archive, and from the Rust crate. It reads the image and checks the whole state, works,
-  and writes the image.
-- **{by_value}**, is `memory_allocator`: the state goes in, is checked, copied and worked on, and
-  comes back, and the caller keeps what came back. No image is read or written.
-- **{in_place}**, are `allocate_in`, `reserve_in` and `free_in`: the work alone, on fields that are lent to them. Their contract
-  requires a sound state, and nothing looks whether it is: they serve callers that are proved themselves.
+- **{c_call}** is what a program gets from the archive, and from the Rust crate, call by call. It reads the image and checks the
+  whole state, works, and writes the image.
+- **{lists}** is `cinghjalofa_batch`, in the crate `serve`: the same once for a list, and the calls of the list in place between
+  reading and writing. The table has lists of {stretch} calls.
 
-The last two are inside the archive and have no door for a program. `bench/inner-archive` takes them from the module that Rattle
-makes of `c_calls`, leaves their code as it is, and gives them names that can be linked; of the by-value core these are the check and
-the serving of a sound state, put together as `serving::serve` does. This glue, with its declarations in
-`bench/src/inner.rs`, is not proved, and is the benchmark's alone.
+## Lists
+
+Lists of several lengths, about {ranges_of_lists} free ranges, and again as a multiple of the Rust's time for the same calls:
+
+{lengths(results)}
+
+{long_list(results)}
 
 ## How it is measured
 
 - `tools/bench` measures again and writes this page. Another processor has other ratios; none is a promise.
 - {calls} calls (takes, reserves and frees, one in a few dozen refused), the number of free ranges never more than {slack} from the
-  one named; the least of {rounds} rounds, taken for each stretch of 200 calls and added up; in each round every path plays once.
+  one named; the least of {rounds} rounds, taken for each stretch of {stretch} calls and added up; in each round every path plays once.
+  Lists of other lengths are timed in stretches of 10,000 calls, the long one as a whole, the least of {rounds_of_the_long} rounds. Reading,
+  checking and writing the image are in the time; the words of a list are written before the clock runs.
 - Every answer of every round is compared with document 01's: addresses and acceptances of all paths, and the refusal numbers
   of all but the module, whose total drifts (docs/DIFFERENCES.md).
-- All proved code is compiled as the archive is. The one for Arm is for bare machines (`tools/arm-archive`): no vector register, no
+- The archive is the project's own. The one for Arm is for bare machines (`tools/arm-archive`): no vector register, no
   unaligned access. The module is compiled as any program's Rust is.
 - Under an emulator nothing is measured.
 """

@@ -1,13 +1,12 @@
 //! usage: bench [--smoke]
 //! Plays the same calls by every contender and compares every answer. Prints lines of fields split by tabs:
-//! `processor`, its name; `effort`, rounds, calls and how far the number of ranges wanders; then for each number of ranges
-//! and each contender `ratio`, its time as a multiple of the Rust's.
+//! `processor`, its name; `effort`, rounds, calls, calls timed together and how far the number of ranges wanders; then for each
+//! number of ranges and each contender `ratio`, its time as a multiple of the Rust's; `length`, the same for lists of so many
+//! calls; and `long`, for one list of so many calls, with its free ranges and the rounds.
 //! With --smoke one short round, and for each number of ranges and each contender `equal`, how many answers were compared.
-//! Under emulation nothing is measured. The paths behind the C calls play where the feature `inner` is on.
+//! Under emulation nothing is measured.
 
 mod contenders;
-#[cfg(feature = "inner")]
-mod inner;
 mod machine;
 mod measure;
 mod workload;
@@ -31,12 +30,26 @@ mod shape;
 
 use std::process::ExitCode;
 
+// The C calls, as any Rust program has them.
+#[path = "../../include/cinghjalofa.rs"]
+#[allow(dead_code)]
+mod library;
+
+use contenders::Contender;
 use measure::Effort;
 use workload::Workload;
 
 const FREE_RANGES: [usize; 3] = [5, 25, 50];
-const SMOKE: Effort = Effort { calls: 2_000, rounds: 1 };
-const FULL: Effort = Effort { calls: 20_000, rounds: 100 };
+const SMOKE: Effort = Effort { calls: 2_000, stretch: 200, rounds: 1 };
+const FULL: Effort = Effort { calls: 20_000, stretch: 200, rounds: 100 };
+
+/// Lists of several lengths, and a long one, around this many free ranges.
+const RANGES_OF_LISTS: usize = 50;
+const LENGTHS: [usize; 4] = [1, 10, 100, 10_000];
+const LENGTHS_SMOKE: Effort = Effort { calls: 2_000, stretch: 2_000, rounds: 1 };
+const LENGTHS_FULL: Effort = Effort { calls: 20_000, stretch: 10_000, rounds: 60 };
+const LONG_SMOKE: Effort = Effort { calls: 20_000, stretch: 20_000, rounds: 1 };
+const LONG_FULL: Effort = Effort { calls: 1_000_000, stretch: 1_000_000, rounds: 20 };
 
 fn main() -> ExitCode {
     let words: Vec<String> = std::env::args().skip(1).collect();
@@ -57,12 +70,23 @@ fn main() -> ExitCode {
 fn compare_all() -> Result<(), String> {
     for ranges in FREE_RANGES {
         let workload = Workload::around(ranges, SMOKE.calls);
-        measure::least_times(&workload, &SMOKE)?;
-        for contender in contenders::all() {
-            println!("equal\t{ranges}\t{}\t{}", contender.name(), workload.calls.len());
-        }
+        let mut contenders = contenders::all();
+        measure::least_times(&workload, &mut contenders, &SMOKE)?;
+        print_equal(ranges, &contenders, &SMOKE);
+    }
+    for (lengths, effort) in [(&LENGTHS[..], &LENGTHS_SMOKE), (&[LONG_SMOKE.calls], &LONG_SMOKE)] {
+        let mut contenders = contenders::with_lists(lengths);
+        let workload = Workload::around(RANGES_OF_LISTS, effort.calls);
+        measure::least_times(&workload, &mut contenders, effort)?;
+        print_equal(RANGES_OF_LISTS, &contenders, effort);
     }
     Ok(())
+}
+
+fn print_equal(ranges: usize, contenders: &[Box<dyn Contender>], effort: &Effort) {
+    for contender in contenders {
+        println!("equal\t{ranges}\t{}\t{}", contender.name(), effort.calls);
+    }
 }
 
 fn measure_all() -> Result<(), String> {
@@ -70,14 +94,25 @@ fn measure_all() -> Result<(), String> {
         return Err(format!("{sign}: this is an emulator, where a time says nothing; --smoke compares the answers"));
     }
     println!("processor\t{}", machine::processor());
-    println!("effort\t{}\t{}\t{}", FULL.rounds, FULL.calls, workload::SLACK);
+    println!("effort\t{}\t{}\t{}\t{}", FULL.rounds, FULL.calls, FULL.stretch, workload::SLACK);
     for ranges in FREE_RANGES {
-        let workload = Workload::around(ranges, FULL.calls);
-        let times = measure::least_times(&workload, &FULL)?;
-        for (contender, time) in contenders::all().iter().zip(&times) {
-            let ratio = time.as_secs_f64() / times[0].as_secs_f64();
+        let mut contenders = contenders::all();
+        let ratios = ratios(ranges, &mut contenders, &FULL)?;
+        for (contender, ratio) in contenders.iter().zip(ratios) {
             println!("ratio\t{ranges}\t{}\t{ratio:.2}", contender.name());
         }
     }
+    let by_length = ratios(RANGES_OF_LISTS, &mut contenders::with_lists(&LENGTHS), &LENGTHS_FULL)?;
+    for (length, ratio) in LENGTHS.iter().zip(&by_length[1..]) {
+        println!("length\t{length}\t{ratio:.2}");
+    }
+    let of_the_long_one = ratios(RANGES_OF_LISTS, &mut contenders::with_lists(&[LONG_FULL.calls]), &LONG_FULL)?;
+    println!("long\t{}\t{RANGES_OF_LISTS}\t{}\t{:.2}", LONG_FULL.calls, LONG_FULL.rounds, of_the_long_one[1]);
     Ok(())
+}
+
+/// The time of each contender as a multiple of the first one's.
+fn ratios(ranges: usize, contenders: &mut [Box<dyn Contender>], effort: &Effort) -> Result<Vec<f64>, String> {
+    let times = measure::least_times(&Workload::around(ranges, effort.calls), contenders, effort)?;
+    Ok(times.iter().map(|time| time.as_secs_f64() / times[0].as_secs_f64()).collect())
 }

@@ -3,6 +3,7 @@
 use crate::call::{Answer, Call};
 use crate::contenders::as_number;
 use crate::domain::Model;
+use crate::library::{ALLOCATE, CALL_WORDS, FREE, RESERVE};
 use crate::rng::Rng;
 
 const PAGE: u64 = 4096;
@@ -15,10 +16,49 @@ const REFUSALS_KEPT: u64 = 3;
 
 pub struct Workload {
     /// Frees that bring an empty allocator to the wanted number of ranges.
-    pub opening: Vec<Call>,
-    pub calls: Vec<Call>,
-    /// What document 01 answers to `calls`, refusal numbers included.
+    pub opening: History,
+    pub history: History,
+    /// What document 01 answers to the history, refusal numbers included.
     pub answers: Vec<i64>,
+}
+
+/// Calls, and the same in words, which are made beforehand: to write them is the caller's work.
+pub struct History {
+    pub calls: Vec<Call>,
+    pub words: Vec<u64>,
+}
+
+/// A part of a history.
+#[derive(Clone, Copy)]
+pub struct Stretch<'a> {
+    pub calls: &'a [Call],
+    pub words: &'a [u64],
+}
+
+impl History {
+    fn of(calls: Vec<Call>) -> History {
+        let words = calls.iter().flat_map(|&call| in_words(call)).collect();
+        History { calls, words }
+    }
+
+    /// All of it.
+    pub fn whole(&self) -> Stretch<'_> {
+        Stretch { calls: &self.calls, words: &self.words }
+    }
+
+    /// Its stretches of so many calls.
+    pub fn stretches(&self, length: usize) -> impl Iterator<Item = Stretch<'_>> {
+        let words = self.words.chunks(length * CALL_WORDS);
+        self.calls.chunks(length).zip(words).map(|(calls, words)| Stretch { calls, words })
+    }
+}
+
+fn in_words(call: Call) -> [u64; CALL_WORDS] {
+    match call {
+        Call::Free { start, size } => [FREE, start, size, 0],
+        Call::Allocate { size, order } => [ALLOCATE, size, order, 0],
+        Call::Reserve { start, size, order } => [RESERVE, start, size, order],
+    }
 }
 
 struct Builder {
@@ -33,14 +73,14 @@ impl Workload {
     pub fn around(ranges: usize, length: usize) -> Workload {
         let rng = Rng::for_history(1, ranges as u64);
         let mut builder = Builder { wanted: ranges, rng, model: Model::new(), held: Vec::new() };
-        let opening = builder.opening();
+        let opening = History::of(builder.opening());
         let (mut calls, mut answers) = (Vec::new(), Vec::new());
         while calls.len() < length {
             let call = builder.next_call();
             answers.push(as_number(builder.play(call)));
             calls.push(call);
         }
-        Workload { opening, calls, answers }
+        Workload { opening, history: History::of(calls), answers }
     }
 }
 

@@ -18,6 +18,7 @@ int64_t __real_cinghjalofa_reserve_memory(uint8_t *image, size_t len, uint64_t s
 int64_t __real_cinghjalofa_free(uint8_t *image, size_t len, uint64_t start, uint64_t size);
 int64_t __real_cinghjalofa_allocate_pages(uint8_t *image, size_t len, uint64_t count, uint64_t order);
 int64_t __real_cinghjalofa_free_pages(uint8_t *image, size_t len, uint64_t address, uint64_t count);
+int64_t __real_cinghjalofa_batch(uint8_t *image, size_t len, const uint64_t *calls, size_t words, int64_t *answers, size_t places);
 
 static uint8_t old_image[IMAGE_BYTES];
 
@@ -183,4 +184,21 @@ int64_t __wrap_cinghjalofa_free_pages(uint8_t *image, size_t len, uint64_t addre
     if (is_breakage("any-address"))
         address -= address % CINGHJALOFA_PAGE_BYTES;
     return end(image, len, __real_cinghjalofa_free_pages(image, len, address, count));
+}
+
+int64_t __wrap_cinghjalofa_batch(uint8_t *image, size_t len, const uint64_t *calls, size_t words, int64_t *answers, size_t places)
+{
+    int64_t answer;
+
+    if (is_breakage("half-a-call-dropped"))
+        words -= words % CINGHJALOFA_CALL_WORDS;
+    if (is_breakage("exact-slice-short") && places > 0)
+        places--;
+    answer = __real_cinghjalofa_batch(image, len, calls, words, answers, places);
+    if (is_breakage("place-past-the-list") && answer == 0 && words / CINGHJALOFA_CALL_WORDS < places)
+        answers[words / CINGHJALOFA_CALL_WORDS] = 0;
+    for (size_t k = 0; is_breakage("unknown-is-accepted") && answer == 0 && k < words / CINGHJALOFA_CALL_WORDS; k++)
+        if (calls[CINGHJALOFA_CALL_WORDS * k] - 1 > 2)
+            answers[k] = 0;
+    return answer;
 }

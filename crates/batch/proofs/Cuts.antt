@@ -4,7 +4,7 @@
 use Prim.Native.Nat.{ℕ, _+_, _*_, _-_, _≤_}
 use mathlib.Core.Bool.{true}
 use mathlib.Core.List.{List, [], _∷_, _++_, append-assoc, append-nil}
-use mathlib.Core.Path.{_≡_, sym, ap, _∙_}
+use mathlib.Core.Path.{_≡_, refl, sym, ap, _∙_}
 use lib.IntN.{ℤ}
 use lib.ListN.{length, take, drop, length-append, length-drop, take-append-drop}
 use lib.Seq.{length-take-le, drop-length, drop-drop}
@@ -16,10 +16,11 @@ use Rattle.state.specs.declared.MemoryAllocator.{MemoryAllocator}
 use Rattle.soundness.proofs.Exact.{sound-passes}
 use Rattle.calls.specs.Calls.{callOf, signedOf}
 use Rattle.calls.specs.declared.Request.{Request}
+use Rattle.calls.specs.declared.Request.the-variants.{Allocate, Reserve, Free}
 use Rattle.serving.specs.Made.{made}
 use Rattle.memory_allocator.specs.States.{states}
 use Rattle.listing.specs.Listing.{written}
-use Rattle.batch.specs.InWords.{asked, whole}
+use Rattle.batch.specs.InWords.{wordsOf, asked, whole}
 use Rattle.batch.specs.Lists.{leftBy, answersOf, fitted, listServed, answered}
 use Rattle.batch.specs.Histories.{Batch, stateDoor, front, rest, CutAt}
 use Rattle.batch.specs.declared.Asked.{Asked}
@@ -32,6 +33,19 @@ use Rattle.batch.proofs.Histories.{left-sound}
 -- a list that fits
 abbrev pub Fits : Batch → Type 0
 Fits b = fitted (b .words) (length (b .places)) ≡ true
+
+-- the words of a request ask for it, and one place is enough
+pub asked-one : (q : Request) → asked (wordsOf q) ≡ Is q ∷ []
+unfolding asked
+asked-one (Free a z) = refl
+asked-one (Allocate z o) = refl
+asked-one (Reserve a z o) = refl
+
+pub one-fits : (q : Request) (i : ℤ) → Fits (record { words = wordsOf q; places = i ∷ [] })
+unfolding asked whole
+one-fits (Free a z) i = refl
+one-fits (Allocate z o) i = refl
+one-fits (Reserve a z o) i = refl
 
 module _ (n : ℕ) (small : n ≤ none) where
   -- a list that fits, on a sound state

@@ -7,6 +7,7 @@ use lib.ListN.{getD}
 use Rattle.rules.specs.Rules as rules
 use Rattle.rules.specs.Rules.{Book, step, refused}
 use Rattle.calls.specs.Calls.{callOf}
+use Rattle.calls.specs.declared.Request.{Request}
 use Rattle.calls.specs.declared.Request.the-variants.{Allocate, Reserve, Free}
 use Rattle.batch.specs.declared.Asked.{Asked}
 use Rattle.batch.specs.declared.Asked.the-variants.{Is, Unknown}
@@ -18,6 +19,12 @@ askedOf kind x y z =
     cond (eqb kind 1) (Is (Free (record { 0 = x }) y))
     (cond (eqb kind 2) (Is (Allocate x y))
     (cond (eqb kind 3) (Is (Reserve (record { 0 = x }) y z)) Unknown))
+
+-- the words of a request
+abbrev pub wordsOf : Request → List ℕ
+wordsOf (Free a z) = 1 ∷ a .0 ∷ z ∷ 0 ∷ []
+wordsOf (Allocate z o) = 2 ∷ z ∷ o ∷ 0 ∷ []
+wordsOf (Reserve a z o) = 3 ∷ a .0 ∷ z ∷ o ∷ []
 
 abbrev pub askedBy : Words → Asked
 askedBy w = askedOf (w .kind) (w .x) (w .y) (w .z)

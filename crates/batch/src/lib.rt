@@ -15,7 +15,7 @@ ghost use lib.ListN.{length};
 ghost use Rattle.state.specs.Shown.{pool};
 ghost use Rattle.state.specs.Lent.{was};
 ghost use Rattle.sound.specs.IsSound.{isSound};
-ghost use Rattle.batch.specs.InWords.{asked, askedBy, askedAt};
+ghost use Rattle.batch.specs.InWords.{asked, askedBy, askedAt, wordsOf};
 ghost use Rattle.batch.specs.Lists.{fitted, Served, Serves};
 
 mod in_place;
@@ -40,6 +40,17 @@ pub struct Words {
 pub enum Asked {
     Is(Request),
     Unknown,
+}
+
+// A request as a list of one call.
+pub fn words_of(request: Request) -> [u64; CALL_WORDS]
+    ensures { λ r. ⌜ r ≡ wordsOf request ⌝ }
+{
+    match request {
+        Request::Allocate(size, order) => [ALLOCATE, size, order, 0],
+        Request::Reserve(address, size, order) => [RESERVE, address.0, size, order],
+        Request::Free(address, size) => [FREE, address.0, size, 0],
+    }
 }
 
 fn words_at(calls: &[u64], k: usize) -> Words

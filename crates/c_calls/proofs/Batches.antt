@@ -4,9 +4,17 @@ use Prim.Native.Nat.{ℕ, _≤_}
 use mathlib.Core.Bool.{Bool, true, false}
 use mathlib.Core.List.{List, [], _∷_, _++_}
 use mathlib.Core.Logic.{_≢_}
-use mathlib.Core.Path.{_≡_, refl, sym, ap, _∙_}
-use lib.IntN.{ℤ}
-use lib.ListN.{length}
+use mathlib.Core.Path.{_≡_, refl, sym, ap, _∙_, subst}
+use lib.IntN.{ℤ, pos}
+use lib.ListN.{length, getD}
+use lib.Dec.{eqb}
+use lib.Signed.{ltZ}
+use borrow.Author.Tests.{eqb-true}
+use Rattle.image.specs.Reading.{readingOf}
+use Rattle.bytes_be.specs.Numbers.{Bytes}
+use Rattle.calls.specs.declared.Answer.the-variants.{InvalidEntry}
+use Rattle.soundness.proofs.Exact.{sound-passes}
+use Rattle.lists.proofs.Laws.{true≢false}
 use Rattle.lists.specs.Links.{none}
 use Rattle.rules.specs.Rules.{Call}
 use Rattle.engine.specs.Engine.{after, vouchers}
@@ -14,24 +22,24 @@ use Rattle.engine.specs.Demand.{left, DemandOf}
 use Rattle.state.specs.Sound.{SoundState}
 use Rattle.state.specs.declared.MemoryAllocator.{MemoryAllocator}
 use Rattle.sound.specs.IsSound.{isSound}
-use Rattle.calls.specs.Calls.{callOf, numberOf}
+use Rattle.calls.specs.Calls.{callOf, numberOf, signedOf}
 use Rattle.calls.specs.declared.Request.{Request}
 use Rattle.serving.specs.Made.{made}
 use Rattle.memory_allocator.specs.States.{states}
-use Rattle.batch.specs.InWords.{asked}
+use Rattle.batch.specs.InWords.{asked, wordsOf}
 use Rattle.batch.specs.Lists.{fitted, listServed}
 use Rattle.batch.specs.Histories.{Batch, callsIn, vouchersIn, afterLists, vouchersOfLists, stateDoor, front, rest, CutAt}
 use Rattle.batch.specs.declared.Asked.the-variants.{Is}
 use Rattle.batch.proofs.Histories.{of-lists, made-sound, list-left, list-kept, list-sound}
-use Rattle.batch.proofs.Cuts.{Fits, single-left, single-answer, cut}
+use Rattle.batch.proofs.Cuts.{Fits, single-left, single-answer, cut, asked-one, one-fits}
 use Rattle.listing.specs.Listing.{written}
 use Rattle.image_parts.specs.Layout.{Layout, imageSize}
 use Rattle.image.specs.Writing.{imageOf, Image}
 use Rattle.image.proofs.Fitting.{Lawful}
-use Rattle.image.proofs.Rounds.{read-written}
-use Rattle.c_calls.specs.CCalls.{over, callOver, newOver}
+use Rattle.image.proofs.Rounds.{read-written, accepted-image}
+use Rattle.c_calls.specs.CCalls.{over, callOver, newOver, Returned, returned, finished}
 use Rattle.c_calls.specs.Images.{images}
-use Rattle.c_calls.specs.Lists.{listOver, answersOver, imageDoor}
+use Rattle.c_calls.specs.Lists.{listOver, answersOver, imageDoor, BatchOver}
 use Rattle.c_calls.proofs.Ways.{small-pool}
 use Rattle.c_calls.proofs.Images.{leaves-image, call-bytes, call-number, call-voucher}
 use Rattle.c_calls.proofs.Demand.{demand}
@@ -131,3 +139,68 @@ module _ (f : Layout) (lawful : Lawful f) (l : List ℕ) where
         next-is = λ cs b. image-left (left (images f l) cs) (d .always-sound cs) b;
         kept-is = λ cs b. image-kept (left (images f l) cs) (d .always-sound cs) b;
       }) d
+
+-- ---- a call, made as a list of one
+
+-- the same number, and the same words
+pub same-list : (f : Layout) (l words words′ : List ℕ) (old : List ℤ) (r r′ : ℤ) (l′ : List ℕ) (now : List ℤ) → words ≡ words′ → r′ ≡ r → BatchOver f l words old r l′ now → BatchOver f l words′ old r′ l′ now
+same-list f l words words′ old r r′ l′ now e g h = rw g (subst (λ (ws : List ℕ). BatchOver f l ws old r l′ now) e h)
+
+module _ (f : Layout) (lawful : Lawful f) (l : List ℕ) (bytes : Bytes l) (q : Request) (r : ℤ) (l′ : List ℕ) (now : List ℤ) (h : BatchOver f l (wordsOf q) (pos 0 ∷ []) r l′ now) where
+  abbrev one : Batch
+  one = record { words = wordsOf q; places = pos 0 ∷ [] }
+
+  abbrev refused : Returned
+  refused = returned (signedOf InvalidEntry) l
+
+  -- bytes that do not serve
+  not-listed : eqb (readingOf f l .number) 0 ≡ false → returned r l′ ≡ refused
+  unfolding listOver over
+  not-listed e = h .image-now ∙ rw e
+
+  not-called : eqb (readingOf f l .number) 0 ≡ false → refused ≡ callOver f (callOf q) l
+  unfolding callOver over
+  not-called e = rw e
+
+  -- an image
+  module _ (i : Image f l) where
+    abbrev held : List ℕ
+    held = imageOf f (i .state)
+
+    number-listed : listOver f (wordsOf q) 1 held .number ≡ pos 0
+    unfolding listOver over finished listServed
+    number-listed = rw (read-written f lawful (i .state) (i .sound), sound-passes (f .records) (small-pool f lawful) (i .state) (i .sound), one-fits q (pos 0))
+
+    listed : r ≡ pos 0
+    listed = ap (λ (x : Returned). x .number) (h .image-now) ∙ ap (λ (m : List ℕ). listOver f (wordsOf q) 1 m .number) (sym (i .bytes)) ∙ number-listed
+
+    bytes-left : l′ ≡ callOver f (callOf q) l .bytes
+    bytes-left =
+        ap (λ (x : Returned). x .bytes) (h .image-now) ∙ ap (λ (m : List ℕ). listOver f (wordsOf q) 1 m .bytes) (sym (i .bytes))
+        ∙ single-bytes f lawful l (i .state) (i .sound) one (one-fits q (pos 0)) q (asked-one q) ∙ ap (λ (m : List ℕ). callOver f (callOf q) m .bytes) (i .bytes)
+
+    number-in-place : getD now 0 (pos 0) ≡ callOver f (callOf q) l .number
+    number-in-place =
+        ap (λ (is : List ℤ). getD is 0 (pos 0))
+        (h .answers-now ∙ ap (answersOver f (wordsOf q) (pos 0 ∷ [])) (sym (i .bytes)) ∙ single-number f lawful l (i .state) (i .sound) one (one-fits q (pos 0)) q (asked-one q))
+        ∙ ap (λ (m : List ℕ). callOver f (callOf q) m .number) (i .bytes)
+
+    called : returned (getD now 0 (pos 0)) l′ ≡ callOver f (callOf q) l
+    called = let p = number-in-place in let w = bytes-left in (λ j. returned (p j) (w j))
+
+  image-read : eqb (readingOf f l .number) 0 ≡ true → Image f l
+  image-read e = accepted-image f lawful l bytes (eqb-true _ _ e)
+
+  pub list-refused : ltZ r (pos 0) ≡ true → returned r l′ ≡ callOver f (callOf q) l
+  list-refused t = go (eqb (readingOf f l .number) 0) refl
+    where
+      go : (u : Bool) → eqb (readingOf f l .number) 0 ≡ u → returned r l′ ≡ callOver f (callOf q) l
+      go false e = not-listed e ∙ not-called e
+      go true e = true≢false (sym t ∙ ap (λ (x : ℤ). ltZ x (pos 0)) (listed (image-read e)))
+
+  pub list-served : ltZ r (pos 0) ≡ false → returned (getD now 0 (pos 0)) l′ ≡ callOver f (callOf q) l
+  list-served t = go (eqb (readingOf f l .number) 0) refl
+    where
+      go : (u : Bool) → eqb (readingOf f l .number) 0 ≡ u → returned (getD now 0 (pos 0)) l′ ≡ callOver f (callOf q) l
+      go false e = true≢false (sym (ap (λ (x : Returned). ltZ (x .number) (pos 0)) (not-listed e)) ∙ t)
+      go true e = called (image-read e)

@@ -10,18 +10,14 @@ use lib.Signed.{ltZ}
 use lib.ListN.{length}
 use borrow.Author.Tests.{eq-eqb, ne-eqb}
 use Rattle.lists.specs.Links.{none}
-use Rattle.rules.specs.Rules.{Call, step, Voucher}
-use Rattle.state.specs.Sound.{bookOf, SoundState}
+use Rattle.state.specs.Sound.{SoundState}
 use Rattle.state.specs.declared.MemoryAllocator.{MemoryAllocator}
 use Rattle.sound.specs.IsSound.{isSound}
 use Rattle.soundness.proofs.Exact.{sound-passes}
-use Rattle.calls.specs.Calls.{addressOf, isAccepted, signedOf}
+use Rattle.calls.specs.Calls.{isAccepted, signedOf}
 use Rattle.calls.specs.declared.Answer.the-variants.{InvalidEntry}
-use Rattle.calls.proofs.Below.{step-below}
 use Rattle.calls.proofs.Numbers.{refusal-negative}
-use Rattle.serving.specs.Made.{made}
 use Rattle.calls.specs.declared.Outcome.{Outcome}
-use Rattle.memory_allocator.proofs.Steps.{made-voucher}
 use Rattle.bytes_be.specs.Numbers.{Bytes}
 use Rattle.image_parts.specs.Layout.{Layout, imageSize}
 use Rattle.image.specs.Writing as writing
@@ -32,14 +28,10 @@ use Rattle.image.specs.declared.ImageAnswer.the-variants as image-answer
 use Rattle.image.proofs.Fitting.{Lawful, sound-fits}
 use Rattle.image.proofs.ReadBack.{frame-back}
 use Rattle.image.proofs.Rounds.{read-written, accepted-image}
-use Rattle.c_calls.specs.CCalls.{Returned, returned, finished, callOver, begun, newOver, over, Finishes}
+use Rattle.c_calls.specs.CCalls.{Returned, returned, finished, begun, newOver, over, Finishes}
 
 pub small-pool : (f : Layout) → Lawful f → f .records ≤ none
 small-pool f lawful = let h = lawful .records in let k = lawful .links in omega arith
-
--- a call on a sound state answers the rule's address on its book
-made-address : (n : ℕ) → n ≤ none → (s : MemoryAllocator) (c : Call) → SoundState n s → addressOf (made n s c .answer) ≡ step n c (bookOf n s) .address
-made-address n small s c h = ap (λ (t : MemoryAllocator). addressOf (made n t c .answer)) (sym (h .state)) ∙ ap (λ (v : Voucher). v .address) (made-voucher n small (bookOf n s) c (h .book))
 
 -- ---- an outcome
 
@@ -89,24 +81,3 @@ module _ (f : Layout) (l : List ℕ) (a : image.ImageAnswer) (s : MemoryAllocato
 
     pub sized-known : length l ≡ imageSize f
     sized-known = sound-read .1
-
-  -- a call on it
-  module _ (c : Call) where
-    pub no-state : a ≡ image-answer.InvalidEntry → returned (signedOf InvalidEntry) l ≡ callOver f c l
-    unfolding callOver over
-    no-state e = rw (← read, e)
-
-    pub call-done : (r : Outcome) (x : Returned) → a ≡ image-answer.Done → r ≡ made (f .records) s c → x ≡ finished f r l → x ≡ callOver f c l
-    unfolding callOver over
-    call-done r x e er is = rw (← read, e, ← er) is
-
-    pub call-finishes : Lawful f → Bytes l → a ≡ image-answer.Done → (r : Outcome) → r ≡ made (f .records) s c → Finishes f r l
-    call-finishes lawful bytes e r er =
-        let h = sound-read lawful bytes e .0 in
-        let n = f .records in
-        let b = bookOf n s in
-        let small = small-pool f lawful in
-        record {
-          sized = sized-known lawful bytes e;
-          below = rw (ap (λ (o : Outcome). addressOf (o .answer)) er ∙ made-address n small s c h) (step-below n b c (h .book));
-        }

@@ -12,6 +12,7 @@ int main(int count, char **words)
     open_area();
     test_contract();
     test_cases(words[1]);
+    test_lists();
     printf("%lu calls, %lu failures\n", calls_made, failures);
     return failures ? 1 : 0;
 }

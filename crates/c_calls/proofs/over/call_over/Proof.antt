@@ -1,73 +1,71 @@
+use mathlib.Core.List.{[], _∷_}
 use mathlib.Core.Path.{ap, _∙_}
-use lib.IntN.{ℤ}
+use lib.IntN.{ℤ, pos}
 use mir.Syntax.{w64}
+use mir.Val.{toZ, ofZ}
 use mir.Facts.{toZ-ofZ}
 use Rattle.image_parts.specs.Layout.{current}
 use Rattle.image.proofs.Fitting.{lawful-current}
-use Rattle.calls.specs.Calls.{callOf}
+use Rattle.batch.specs.InWords.{wordsOf}
 use Rattle.c_calls.specs.CCalls.{returned}
-use Rattle.c_calls.proofs.Ways.{no-state, call-done, call-finishes, sound-known}
+use Rattle.c_calls.specs.Lists.{BatchOver}
+use Rattle.c_calls.proofs.Batches.{same-list, list-refused, list-served}
 use borrow.Author.Needs.{needs}
 use Rattle.c_calls.proofs.over.call_over.Statement.{statement}
 use Rattle.c_calls.proofs.over.call_over.Tie as tie
 
-read-image-requires : tie.Need-read-image-requires
-read-image-requires c κs = search needs
+words-of-requires : tie.Need-words-of-requires
+words-of-requires c κs = search needs
 
-enum-told : tie.Need-enum-told
-enum-told c = search needs
+slice-aggregate-list-over : tie.Need-slice-aggregate-list-over
+slice-aggregate-list-over c = search needs
 
-serve-sound-requires : tie.Need-serve-sound-requires
-serve-sound-requires c κs =
-    let read = c .before .before in
-    let known = read .before .before in
-    sound-known current _ _ _ (read .read-image .ensures) lawful-current (λ i b. known .slice-known .given i .fits) (c .enum-told .given .1)
+slice-aggregate-list-over-2 : tie.Need-slice-aggregate-list-over-2
+slice-aggregate-list-over-2 c = search needs
 
-finish-call-requires : tie.Need-finish-call-requires
-finish-call-requires c κs =
-    let served = c .before in
-    let told = served .before in
-    let read = told .before .before in
-    let known = read .before .before in
-    call-finishes current _ _ _ (read .read-image .ensures) (callOf (known .before .args .request)) lawful-current (λ i b. known .slice-known .given i .fits) (told .enum-told .given .1) _
-    (served .serve-sound .ensures)
+list-over-requires : tie.Need-list-over-requires
+list-over-requires c κs = search needs
 
-enum-told-2 : tie.Need-enum-told-2
-enum-told-2 c = search needs
+-- the list was that of the request, and its number is what was returned
+listed : (c : tie.After-list-over) → let start = c .before .before .before .before .before .before in
+    BatchOver current (start .args .image .now) (wordsOf (start .args .request)) (pos 0 ∷ []) (toZ w64 (ofZ w64 (c .list-over .result))) (c .list-over .last .0) (c .list-over .last .1 .1 .0)
+listed c =
+    let made = c .before .before .before .before in
+    same-list current _ _ _ _ _ _ _ _ (made .words-of .ensures) (toZ-ofZ {w = w64} (record { sfits = c .list-over .ok })) (c .list-over .ensures)
 
 same-length : tie.Need-same-length
 same-length c = search needs
 
 returns : tie.Need-returns
 returns c =
-    let finished = c .before .before in
-    let served = finished .before .before in
-    let told = served .before in
-    let read = told .before .before in
-    let start = read .before .before .before in
-    let result = finished .finish-call in
-    ap (λ (i : ℤ). returned i (result .last .1 .0)) (toZ-ofZ {w = w64} (record { sfits = result .ok }))
-    ∙ call-done current _ _ _ (read .read-image .ensures) (callOf (start .args .request)) _ _ (told .enum-told .given .1) (served .serve-sound .ensures) (result .ensures)
+    let called = c .before .before .before .before in
+    let known = called .before .before .before .before .before in
+    list-refused current lawful-current _ (λ i b. known .slice-known .given i .fits) (known .before .args .request) _ _ _ (listed called) (c .if1 .taken)
+
+array-copy-out-result : tie.Need-array-copy-out-result
+array-copy-out-result c = search needs
 
 same-length-2 : tie.Need-same-length-2
 same-length-2 c = search needs
 
 returns-2 : tie.Need-returns-2
 returns-2 c =
-    let read = c .before .before in
-    let start = read .before .before .before in
-    no-state current _ _ _ (read .read-image .ensures) (callOf (start .args .request)) (c .enum-told2 .given .1)
+    let tested = c .before in
+    let called = tested .before .before .before .before in
+    let known = called .before .before .before .before .before in
+    ap (λ (i : ℤ). returned i (called .list-over .last .0)) (toZ-ofZ {w = w64} (record { sfits = c .result .given }))
+    ∙ list-served current lawful-current _ (λ i b. known .slice-known .given i .fits) (known .before .args .request) _ _ _ (listed called) (tested .if1 .left)
 
 pub call-over-spec : {M : Type 1} → statement M
 call-over-spec =
     tie.close
     (tie.spec
-    read-image-requires
-    enum-told
-    serve-sound-requires
-    finish-call-requires
-    enum-told-2
+    words-of-requires
+    slice-aggregate-list-over
+    slice-aggregate-list-over-2
+    list-over-requires
     same-length
     returns
+    array-copy-out-result
     same-length-2
     returns-2)
