@@ -108,11 +108,7 @@ impl Contender for Lists {
 
 /// The Rust first, with which the others are compared.
 pub fn all() -> Vec<Box<dyn Contender>> {
-    vec![
-        rust(),
-        Box::new(CCall(cinghjalofa::MemoryAllocator::new())),
-        Box::new(Lists::of(usize::MAX)),
-    ]
+    vec![rust(), Box::new(CCall(cinghjalofa::MemoryAllocator::new())), Box::new(Lists::of(usize::MAX))]
 }
 
 /// The Rust, and lists of so many calls.

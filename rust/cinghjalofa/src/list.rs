@@ -39,7 +39,8 @@ impl CallAnswer {
 
 /// Lends the slices as the words that they are.
 pub(crate) fn serve(image: &mut [u8], list: &[Call], answers: &mut [CallAnswer]) -> Result<(), MemoryError> {
-    let words = list.len() * calls::CALL_WORDS; // fits: the slice's bytes are eight times as many
+    // never wraps: the slice's bytes are eight times as many
+    let words = list.len().wrapping_mul(calls::CALL_WORDS);
     // SAFETY: a `Call` is four words and nothing else, and a `CallAnswer` one signed number (`repr(transparent)`), so that the
     // slices have this many of them; any number may be written. Both borrows last as long as the slices made of them.
     let (words, places) = unsafe {

@@ -35,7 +35,14 @@ fn each_kind_reaches_its_call_with_its_numbers() {
         Call::allocate(usize::MAX, 0),
         Call::allocate(1, 64),
     ];
-    let due = [Ok(0), Ok(0), Ok(0x1_4000), Err(MemoryError::InvalidRequest), Err(MemoryError::NoMemory), Err(MemoryError::InvalidRequest)];
+    let due = [
+        Ok(0),
+        Ok(0),
+        Ok(0x1_4000),
+        Err(MemoryError::InvalidRequest),
+        Err(MemoryError::NoMemory),
+        Err(MemoryError::InvalidRequest),
+    ];
     assert_eq!(served(&mut memory, &calls), due);
     assert_eq!(memory.total(), 0x1_0000 - 0x1000 - 0x2000);
 }
