@@ -6,6 +6,8 @@
 #define PAINT 0xa5
 
 static uint8_t image[CINGHJALOFA_IMAGE_BYTES];
+static const uint64_t CALLS[] = {1, 98304, 32768, 0, 2, 4096, 13, 0, 3, 75000, 100, 12, 9, 0, 0, 0};
+static int64_t answers[4];
 static long deepest;
 
 static __attribute__((noinline)) void paint(void) {
@@ -36,6 +38,7 @@ int main(void) {
     TRY(cinghjalofa_free(image, len, 98304, 32768)); /* joins two */
     TRY(cinghjalofa_free(image, len, 98304, 32768)); /* refused */
     TRY(cinghjalofa_allocate(image, len, (uint64_t)1 << 40, 0));
+    TRY(cinghjalofa_batch(image, len, CALLS, sizeof CALLS / sizeof CALLS[0], answers, sizeof answers / sizeof answers[0]));
     printf("%ld\n", deepest);
     return 0;
 }

@@ -26,35 +26,47 @@ abbrev μ-loop : tie.MeasureT-loop
 
 loop-holds : tie.Need-loop-holds Inv-loop μ-loop
 loop-holds c =
-    let start = c .before .before .before .before .before .before .before .before .before in
+    let copied = c .before .before .before .before .before in
+    let start = copied .before .before .before .before in
     (refl, going-start pool (lit≤ tt) _ _ _ (passes-sound pool (lit≤ tt) _ (owned-sized _ _ (start .good .0)) (start .pre .0)))
 
--- in a turn, there is a call to serve, and a place for its answer
-more : (c : tie.In-loop Inv-loop μ-loop) → c .before .loop .k < length (asked (c .before .before .before .before .before .before .before .before .before .before .before .args .calls .now))
-more c = omega (arith, asked-length (c .before .before .before .before .before .before .before .before .before .before .before .args .calls .now))
+-- in a turn, there is a call to serve,
+more : (c : tie.In-loop Inv-loop μ-loop) → let copied = c .before .before .before .before .before .before in let start = copied .before .before .before .before .before in
+    c .before .loop .k < length (asked (start .args .calls .now))
+more c =
+    let copied = c .before .before .before .before .before .before in
+    let start = copied .before .before .before .before .before in
+    omega (arith, asked-length (start .args .calls .now))
 
-room : (c : tie.In-loop Inv-loop μ-loop) → let start = c .before .before .before .before .before .before .before .before .before .before .before in
+-- and a place for its answer
+room : (c : tie.In-loop Inv-loop μ-loop) → let copied = c .before .before .before .before .before .before in let start = copied .before .before .before .before .before in
     length (asked (start .args .calls .now)) ≤ length (start .args .answers .now)
-room c = going-room _ _ (c .before .before .before .before .before .before .before .before .before .before .before .pre .1)
+room c =
+    let copied = c .before .before .before .before .before .before in
+    let start = copied .before .before .before .before .before in
+    going-room _ _ (start .pre .1)
 
 words-at-requires : tie.Need-words-at-requires Inv-loop μ-loop
 words-at-requires c κs = more c
 
 serve-words-in-requires : tie.Need-serve-words-in-requires Inv-loop μ-loop
 serve-words-in-requires c κs =
-    let turn = c .before .before .before .before .before .before .before .before .before .before .before in
+    let lent = c .before .before .before .before .before in
+    let turn = lent .before .before .before .before .before .before in
     (_, going-holds pool (lit≤ tt) _ _ _ _ _ _ (turn .before .loop .inv .1))
 
 signed-number-requires : tie.Need-signed-number-requires Inv-loop μ-loop
 signed-number-requires c κs =
-    let worded = c .before .before .before .before .before .before .before .before .before .before .before in
+    let lent = c .before .before .before .before .before .before in
+    let worded = lent .before .before .before .before .before in
     going-below pool (lit≤ tt) _ _ _ _ _ _ (worded .before .before .loop .inv .1) _ (worded .words-at .ensures) _ _ (c .serve-words-in .ensures)
 
 mul-number : tie.Need-mul-number Inv-loop μ-loop
 mul-number c =
     let back = c .before .before .before .before .before .before .before in
     let turn = back .before .before .before .before .before .before in
-    let start = turn .before .before .before .before .before .before .before .before .before .before .before in
+    let copied = turn .before .before .before .before .before .before in
+    let start = copied .before .before .before .before .before in
     let g = start .good .1 in
     let h = more turn in
     let r = room turn in
@@ -70,7 +82,8 @@ add-k : tie.Need-add-k Inv-loop μ-loop
 add-k c =
     let back = c .before .before .before .before .before .before .before in
     let turn = back .before .before .before .before .before .before in
-    let start = turn .before .before .before .before .before .before .before .before .before .before .before in
+    let copied = turn .before .before .before .before .before .before in
+    let start = copied .before .before .before .before .before in
     let g = start .good .1 in
     let h = more turn in
     let r = room turn in
@@ -94,7 +107,9 @@ same-length c = omega arith
 
 returns : tie.Need-returns Inv-loop μ-loop
 returns c =
-    going-end pool (lit≤ tt) _ _ _ _ _ _ (c .before .loop .inv .1) (omega (arith, asked-length (c .before .before .before .before .before .before .before .before .before .before .before .args .calls .now)))
+    let copied = c .before .before .before .before .before .before in
+    let start = copied .before .before .before .before .before in
+    going-end pool (lit≤ tt) _ _ _ _ _ _ (c .before .loop .inv .1) (omega (arith, asked-length (start .args .calls .now)))
 
 pub serve-list-sound-spec : {M : Type 1} → statement M
 serve-list-sound-spec =
