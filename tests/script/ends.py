@@ -1,6 +1,7 @@
 """How the program ends where it cannot read or write: it says so, and what it wrote is the beginning of what was due."""
 import fcntl
 import os
+import platform
 import re
 import subprocess
 import tempfile
@@ -89,8 +90,25 @@ def full_pipe():
     )
 
 
+def interrupted():
+    """A signal that interrupts a call, and a call that moves a part, lose nothing. Elsewhere the program runs by an emulator, whose own
+    calls these would be."""
+    if platform.machine() != "x86_64":
+        return None
+    program, source = os.path.join(ROOT, "target", "bin", "script"), os.path.join(os.path.dirname(__file__), "interrupted.c")
+    given, expected = open(CALLS, "rb").read(), open(os.path.join(os.path.dirname(CALLS), "stdout"), "rb").read()
+    with tempfile.TemporaryDirectory() as folder:
+        library = os.path.join(folder, "interrupted.so")
+        subprocess.run(["gcc", "-shared", "-fPIC", "-O1", source, "-o", library, "-ldl"], check=True)
+        ended = subprocess.run([program], input=given, env={**os.environ, "LD_PRELOAD": library}, capture_output=True)
+    if ended.stdout == expected and not ended.stderr and ended.returncode == 0:
+        return None
+    return f"interrupted calls\n  expected: {shown(expected)}\n  got:      {shown(ended.stdout)}, {ended.stderr!r}"
+
+
 def failures():
     """Each failure, or nothing for what is as it must be."""
     yield from said()
     yield first_line()
     yield full_pipe()
+    yield interrupted()
