@@ -4,14 +4,14 @@
 //
 // The image
 //   The whole state lies in IMAGE_BYTES bytes of the caller's memory. The library keeps nothing between calls, allocates
-//   nothing, reads no other memory and calls nothing but memcpy, memmove, memset and memcmp. An image may be copied, stored
+//   nothing, reads no memory but what it is lent, and calls nothing but memcpy, memmove, memset and memcmp. An image may be copied, stored
 //   and lent again at another address; the address may have any alignment. `new` makes the first image.
 //
 // The answer
 //   0 or more: accepted. It is the address for `allocate` and `allocate_pages`, and 0 for the others.
 //   A list of calls has an answer of its own, and one for each of its calls.
 //   Below 0: refused, for the first reason that applies in the order in which each function lists them. A refusal changes
-//   no byte of the image. No accepted call writes outside the image.
+//   no byte of the image. No call writes outside the image and, of a list, the places of its calls.
 //   A slice of another length is refused with -2 before anything else, and before a byte of it is read. An image that no
 //   sound allocator writes (damaged, or of another version) is refused with -2 before a bad request is with -4.
 //

@@ -8,7 +8,7 @@ use crate::MemoryError;
 #[repr(transparent)]
 pub struct Call([u64; calls::CALL_WORDS]);
 
-/// The answer to one call of a list. The default stands for no answer yet, and reads as `Ok(0)`.
+/// The answer to one call of a list. The default stands for no answer yet and reads as `Ok(0)`: look first at what `serve` answers.
 #[derive(Clone, Copy, PartialEq, Eq, Debug, Default)]
 #[repr(transparent)]
 pub struct CallAnswer(i64);

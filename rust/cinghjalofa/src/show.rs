@@ -10,7 +10,7 @@ impl fmt::Display for MemoryError {
             MemoryError::NoEntry => "no unused record is left, or the only free range was asked for whole",
             MemoryError::InvalidEntry => "the bytes are no image of a sound allocator",
             MemoryError::NoMemory => "too few bytes are free, or no free range fits",
-            MemoryError::InvalidRequest => "the request cannot be right: its size, order or addresses",
+            MemoryError::InvalidRequest => "the request cannot be right: its size, order, addresses or places",
         })
     }
 }
