@@ -14,6 +14,7 @@ PROJECT = HERE.parents[1]
 COMMANDS = ("run", "test", ".ci", "tools", "bench", "VERSION", "kit-id")
 MACHINE = platform.machine()
 LONGEST_SECONDS = 30
+BUILDING_SECONDS = 1200  # where a build is due, or another command builds
 MOST_BYTES = 1 << 24
 
 # a program whose one call says what it does; as a Rattle program, it has no status to tell how that went
@@ -61,17 +62,17 @@ class Running:
     def said_so_far(self):
         return os.pread(self.said.fileno(), MOST_BYTES, 0).decode()
 
-    def end(self):
+    def end(self, seconds=LONGEST_SECONDS):
         """Gives it an end of input, where it has a pipe, and waits for its own."""
         if self.process.stdin:
             self.process.stdin.close()
         late = ""
         try:
-            self.process.wait(timeout=LONGEST_SECONDS)
+            self.process.wait(timeout=seconds)
         except subprocess.TimeoutExpired:
             self.process.kill()
             self.process.wait()
-            late = f"not ended after {LONGEST_SECONDS} s"
+            late = f"not ended after {seconds} s"
         out = os.pread(self.out.fileno(), MOST_BYTES, 0).decode()
         return Ended(self.process.returncode, out, self.said_so_far() + late)
 

@@ -5,7 +5,7 @@ import re
 import tempfile
 from pathlib import Path
 
-from scratch import PROJECT, like, run, shell
+from scratch import BUILDING_SECONDS, Running, PROJECT, like, run, shell
 
 CALLS = PROJECT / "crates" / "script" / "stdin"
 ANSWERS = (PROJECT / "crates" / "script" / "stdout").read_text()
@@ -85,7 +85,7 @@ def one_version():
 
 
 def cases():
-    built = run([PROJECT / "tools" / "program", "script"])
+    built = Running([PROJECT / "tools" / "program", "script"]).end(BUILDING_SECONDS)
     if built.status:
         yield "the script program", built.problem(0, "", None)
         return
