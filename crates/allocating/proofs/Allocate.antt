@@ -6,7 +6,7 @@ use mathlib.Core.Path.{_≡_, sym, ap, _∙_}
 use lib.ListN.{getD}
 use lib.Dec.{leb, leb→le}
 use native.Mathlib.Omega.{arith}
-use borrow.Author.Tests.{eq-eqb, ne-eqb, lt-ltb, le-ltb, le-leb, lt-leb}
+use borrow.Author.Tests.{eq-eqb, ne-eqb, lt-ltb, le-ltb}
 use Rattle.rules.specs.Rules.{top, Range, Book, accepted, refused, refuse, allocate, allocateFrom, total, taken, up, fits, find}
 use Rattle.laws.proofs.Lists.{found}
 use Rattle.laws.proofs.Outcomes.{le-up}
@@ -29,13 +29,13 @@ module _ (n z o : ℕ) (b : Book) where
   unfolding allocate refuse
   high-order e h = rw (ne-eqb z 0 e, lt-ltb 63 o h)
 
-  pub too-few : z ≢ 0 → o ≤ 63 → total b ≤ z → allocate n z o b ≡ refused 3 b
+  pub too-few : z ≢ 0 → o ≤ 63 → total b < z → allocate n z o b ≡ refused 3 b
   unfolding allocate refuse
-  too-few e h g = rw (ne-eqb z 0 e, le-ltb 63 o h, le-leb (total b) z g)
+  too-few e h g = rw (ne-eqb z 0 e, le-ltb 63 o h, lt-ltb (total b) z g)
 
-  pub searched : z ≢ 0 → o ≤ 63 → z < total b → allocate n z o b ≡ allocateFit n z o b
+  pub searched : z ≢ 0 → o ≤ 63 → z ≤ total b → allocate n z o b ≡ allocateFit n z o b
   unfolding allocate refuse
-  searched e h g = rw (ne-eqb z 0 e, le-ltb 63 o h, lt-leb (total b) z g)
+  searched e h g = rw (ne-eqb z 0 e, le-ltb 63 o h, le-ltb (total b) z g)
 
   pub none-fits : Nothing ≡ hitOf (find (fits z o) (b .shelf)) → allocateFit n z o b ≡ refused 3 b
   unfolding allocateFrom

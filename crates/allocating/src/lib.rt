@@ -86,7 +86,7 @@ pub fn allocate_in(
     if MAX_ORDER < order {
         return Answer::InvalidRequest;
     }
-    if *total <= size {
+    if *total < size {
         return Answer::NoMemory;
     }
     allocate_fit(

@@ -17,7 +17,7 @@ refuse-below q k b w h = if q (λ (v : Answer). v .address < top) (λ _. lit< tt
 reserved-below : (n a t : ℕ) (b : Book) (m : Option Range) → reserveFrom n a t b m .address < top
 unfolding reserveFrom
 reserved-below n a t b none = lit< tt
-reserved-below n a t b (some r) = refuse-below _ _ b _ (refuse-below _ _ b _ (lit< tt))
+reserved-below n a t b (some r) = refuse-below _ _ b _ (lit< tt)
 
 allocated-below : (n : ℕ) (b : Book) (z o : ℕ) (w : Answer) → Sound n b → Outcome n b (Allocate z o) w → w .address < top
 allocated-below n b z o _ s (refusal k h m) = lit< tt

@@ -2,5 +2,4 @@
 pub mod Chain
 pub mod Neighbours
 pub mod Overlap
-pub mod Whole
 pub mod Held

@@ -42,9 +42,3 @@ pub record Placed (n : ℕ) (c : List Range) (start end : List ℕ) (x y address
   pub stand : Stand c start end
   pub apart : Pairwise Ahead c
   pub gap : Gapped startOf c address x y
-
--- record i has the range r of the chain c
-pub record Chosen (n : ℕ) (c : List Range) (start end next : List ℕ) (first i : ℕ) (r : Range) : Type 0 where
-  pub ordered : Ordered n c start end next first
-  pub member : In r c
-  pub number : i ≡ r .number

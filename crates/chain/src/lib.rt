@@ -11,15 +11,15 @@ use state::POOL;
 use state::RecordIndex;
 ghost use mathlib.Core.Path.{_≡_};
 ghost use mathlib.Core.Bool.{true, _&&_};
-ghost use lib.Dec.{eqb, leb, ltb};
-ghost use lib.ListN.{getD, length};
+ghost use lib.Dec.{leb, ltb};
+ghost use lib.ListN.{getD};
 ghost use Prim.Native.Nat.{ℕ, _<_, _≤_};
 ghost use mathlib.Core.List.{List};
 ghost use Rattle.lists.specs.Links.{has, head};
-ghost use Rattle.rules.specs.Rules.{top, Range, startOf, any, find, contains, meets, whole};
+ghost use Rattle.rules.specs.Rules.{top, Range, startOf, any, find, contains, meets};
 ghost use Rattle.state.specs.Shown.{pool, numbers, Runs, Gapped};
 ghost use Rattle.state.specs.Lent.{was};
-ghost use Rattle.chain.specs.Chain.{Ordered, Placed, Chosen, Unchained, Enchained};
+ghost use Rattle.chain.specs.Chain.{Ordered, Placed, Unchained, Enchained};
 ghost use Rattle.links.specs.Hits.{hitOf};
 
 // Record i goes out of the chain.
@@ -141,31 +141,4 @@ pub fn overlaps_neighbour(
         return true;
     }
     starts_below(start, after, past)
-}
-
-// Whether record i has the only range, and its bytes are those from `address` to before `past`.
-pub fn is_whole_chain(
-    start: &[u64; POOL],
-    end: &[u64; POOL],
-    next: &[u16; POOL],
-    first: RecordIndex,
-    i: RecordIndex,
-    address: Address,
-    past: Address,
-) -> bool
-    requires { ⌜ ((c : List Range) × (r : Range) × Chosen pool c (now start) (now end) (now next) (first .0) (i .0) r) ⌝ }
-    requires { ⌜ address .0 < past .0 ⌝ }
-    ensures { λ k. ⌜ ((c : List Range) (r : Range) → Chosen pool c (was start) (was end) (was next) (first .0) (i .0) r → k ≡ (whole (address .0) (past .0) r && eqb (length c) 1)) ⌝ }
-{
-    let n = i.0 as usize;
-    if start[n] != address.0 {
-        return false;
-    }
-    if end[n] != past.0 - 1 {
-        return false;
-    }
-    if first.0 != i.0 {
-        return false;
-    }
-    next[n] == NONE
 }

@@ -48,13 +48,13 @@ reserved : (n : ℕ) (b : Book) (s z o : ℕ) → Sound n b → z ≢ 0 → (m :
     → Outcome n b (Reserve s z o) (reserveFrom n (down o s) (up o (s + z)) b m)
 unfolding reserveFrom
 reserved n b s z o k h none f = refusal 4 (omega arith) (omega arith)
-reserved n b s z o k h (some r) f = line n b (Reserve s z o) 1 tt _ _ (λ u. line n b (Reserve s z o) 1 tt _ _ (λ t. took 0 r tt (record {
+reserved n b s z o k h (some r) f = line n b (Reserve s z o) 1 tt _ _ (λ t. took 0 r tt (record {
   member = f .0;
   from = leb→le (r .start) (down o s) (and-l (leb (r .start) (down o s)) (leb (up o (s + z)) (suc (r .last))) (f .1));
   some-byte = omega (arith, down-le o s, le-up o (s + z));
   to = leb→le (up o (s + z)) (suc (r .last)) (and-r (leb (r .start) (down o s)) (leb (up o (s + z)) (suc (r .last))) (f .1));
   room = has-room n b (splits (down o s) (up o (s + z)) r) t;
-})))
+}))
 
 pub clear : (a t : ℕ) (b : Book) → T (not (any (meets a t) (b .chain))) → (q : Range) → In q (b .chain) → (suc (q .last) ≤ a) ⊎ (t ≤ q .start)
 clear a t b h q i = elim (T-or-not (ltb (q .start) t)) [

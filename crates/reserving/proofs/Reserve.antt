@@ -1,17 +1,15 @@
 -- The rule of `reserve`, line by line. Assumes nothing.
 use Prim.Native.Nat.{ℕ, suc, _+_, _-_, _<_, _≤_}
-use mathlib.Core.Bool.{true, false, cond, _&&_}
+use mathlib.Core.Bool.{cond}
 use mathlib.Core.Logic.{_≢_}
 use mathlib.Core.Path.{_≡_, ap, _∙_}
-use lib.ListN.{length}
-use lib.Dec.{leb, eqb, leb→le}
+use lib.Dec.{leb, leb→le}
 use native.Mathlib.Omega.{arith}
 use borrow.Author.Tests.{eq-eqb, ne-eqb, lt-ltb, le-ltb}
-use Rattle.rules.specs.Rules.{top, Range, Book, accepted, refused, refuse, reserve, reserveFrom, total, taken, whole, contains, up, down, find}
+use Rattle.rules.specs.Rules.{top, Range, Book, accepted, refused, refuse, reserve, reserveFrom, total, taken, contains, up, down, find}
 use Rattle.laws.proofs.Lists.{and-l, and-r}
 use Rattle.laws.proofs.Facts.{up-plain, down-plain}
 use Rattle.state.specs.State.{Holds}
-use Rattle.chain.specs.Chain.{Chosen}
 use Rattle.state.specs.declared.RecordIndex.{RecordIndex}
 use Rattle.state.specs.declared.MemoryAllocator.{MemoryAllocator}
 use Rattle.links.specs.Hits.{hitOf}
@@ -19,7 +17,6 @@ use Rattle.links.specs.declared.Hit.the-variants.{At, Nothing}
 use Rattle.take.specs.Take.{Asks, refuses}
 use Rattle.reserving.specs.Piece.{reservePiece}
 use Rattle.links.proofs.Hits.{hit-at, hit-nothing}
-use Rattle.chain.proofs.Held.{chain-ordered}
 
 module _ (n s z o : ℕ) (b : Book) where
   pub reserve-zero : z ≡ 0 → reserve n s z o b ≡ refused 4 b
@@ -60,9 +57,7 @@ module _ (n a t : ℕ) (b : Book) (some-byte : a < t) where
   pub record Inside (s : MemoryAllocator) (i : ℕ) : Type 0 where
     pub range : Range
     pub asks : Asks n b s i a t range
-    pub chosen : Chosen n (b .chain) (s .start) (s .end) (s .next) (s .«first_entry» .0) i range
-    pub only : (whole a t range && eqb (length (b .chain)) 1) ≡ true → reservePiece n a t b ≡ refused 1 b
-    pub answer : (whole a t range && eqb (length (b .chain)) 1) ≡ false → reservePiece n a t b ≡ cond (refuses n b range a t) (refused 1 b) (accepted 0 (taken n range a t b))
+    pub answer : reservePiece n a t b ≡ cond (refuses n b range a t) (refused 1 b) (accepted 0 (taken n range a t b))
 
   pub inside : (s : MemoryAllocator) (j : RecordIndex) → Holds n b s → At j ≡ hitOf (find (contains a t) (b .chain)) → Inside s (j .0)
   unfolding reserveFrom refuse
@@ -79,7 +74,5 @@ module _ (n a t : ℕ) (b : Book) (some-byte : a < t) where
           some-byte = some-byte;
           to = leb→le t (suc (r .last)) (and-r (leb (r .start) a) (leb t (suc (r .last))) (w .2));
         };
-        chosen = record { ordered = chain-ordered n b s hs; member = w .1; number = w .3 };
-        only = λ e. ap (reserveFrom n a t b) (w .4) ∙ rw e;
-        answer = λ e. ap (reserveFrom n a t b) (w .4) ∙ rw e;
+        answer = ap (reserveFrom n a t b) (w .4);
       }

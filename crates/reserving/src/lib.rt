@@ -1,7 +1,6 @@
 // `reserve_memory`, in place.
 use align::align_address_and_size;
 use calls::Answer;
-use chain::is_whole_chain;
 use chain::search_entry_containing_address;
 use entries::Moving;
 use links::Hit;
@@ -19,7 +18,7 @@ ghost use Rattle.state.specs.Lent.{HoldsSome};
 ghost use Rattle.calls.specs.Answers.{Follows};
 ghost use Rattle.reserving.specs.Piece.{reservePiece};
 
-// The bytes from `address` to before `past` are taken, if one range has them all and others remain.
+// The bytes from `address` to before `past` are taken, if one range has them all.
 fn reserve_piece(
     total: &mut u64,
     first: &mut u16,
@@ -42,9 +41,6 @@ fn reserve_piece(
     let Hit::At(i) = hit else {
         return Answer::InvalidRequest;
     };
-    if is_whole_chain(start, end, next, RecordIndex(*first), i, address, past) {
-        return Answer::NoEntry;
-    }
     let moving = define_used_memory(
         total,
         first,

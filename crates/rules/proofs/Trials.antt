@@ -6,7 +6,7 @@ use Prim.Native.Nat.{ℕ, _^_}
 use lib.Dec.{leb}
 use Rattle.rules.specs.Rules.{top, records, sizeLists, Range, Book, size, listing, sum, total, before, without, put, remove, any, find, lowest, unused, least, listNumber, down, up, freeAt, taken, joined, given, refuse, allocateFrom, allocate, reserveFrom, reserve, free, Call, Free, Allocate, Reserve, step, empty, lastCovering, count, back, tally, ofList, lists}
 use Rattle.rules.specs.Ledger.{bounds, play}
-use Rattle.rules.specs.Trials.{Trial, shown, left, vouchersOf, placed, refusals, small, bytes, isFree, byBook, byVouchers, sizes, listNumbers, several}
+use Rattle.rules.specs.Trials.{Trial, shown, left, vouchersOf, placed, refusals, emptied, small, bytes, isFree, byBook, byVouchers, gone, returned, few, goneFree, returnedFree, sizes, listNumbers, several}
 
 abbrev Prints : List Trial → Type 0
 Prints ts = map (λ (t : Trial). play (t .records) empty (t .lines)) ts ≡ map (λ (t : Trial). t .prints) ts
@@ -25,10 +25,20 @@ pub refusing : Prints refusals × Chains refusals × Shelves refusals
 unfolding refusals bounds play shown left sum before without put remove any find lowest unused down up taken joined given refuse allocateFrom allocate reserveFrom reserve free step
 refusing = (refl, refl, refl)
 
+pub emptying : Prints emptied × Chains emptied × Shelves emptied
+unfolding emptied bounds play shown left sum before without put remove any find lowest unused down up taken joined given refuse allocateFrom allocate reserveFrom reserve free step
+emptying = (refl, refl, refl)
+
 -- the same bytes by the book and by the vouchers; and the total counts them
-pub covering : (byBook bytes ≡ isFree) × (byVouchers bytes ≡ isFree) × (count 32 (freeAt (left 8 empty small)) ≡ 10) × (total (left 8 empty small) ≡ 10)
+pub covering : (byBook small bytes ≡ isFree) × (byVouchers small bytes ≡ isFree) × (count 32 (freeAt (left 8 empty small)) ≡ 10) × (total (left 8 empty small) ≡ 10)
 unfolding small bytes isFree byBook byVouchers count left vouchersOf lastCovering freeAt sum before without put remove any find lowest unused down up taken joined given refuse allocateFrom allocate reserveFrom reserve free step
 covering = (refl, refl, refl, refl)
+
+-- also where the total returns to 0, and from there on
+pub returning : (byBook gone few ≡ goneFree) × (byVouchers gone few ≡ goneFree) × (count 16 (freeAt (left 8 empty gone)) ≡ 0) × (total (left 8 empty gone) ≡ 0)
+    × (byBook returned few ≡ returnedFree) × (byVouchers returned few ≡ returnedFree) × (count 16 (freeAt (left 8 empty returned)) ≡ 2) × (total (left 8 empty returned) ≡ 2)
+unfolding gone returned few goneFree returnedFree byBook byVouchers count left vouchersOf lastCovering freeAt sum before without put remove any find lowest unused down up taken joined given refuse allocateFrom allocate reserveFrom reserve free step
+returning = (refl, refl, refl, refl, refl, refl, refl, refl)
 
 -- the call that hands back; first and last bytes by address
 pub handing : (back (Reserve 70000 100 12) 0 ≡ Free 69632 4096) × (back (Allocate 8192 14) 81920 ≡ Free 81920 8192) × (listing (left 8 empty several) ≡ ((0, 8191) ∷ (16384, 20480) ∷ (32768, 32768) ∷ (65536, 8454143) ∷ []))

@@ -1,4 +1,5 @@
--- The starred cases of document 01's ledger, as one table; proofs/Ledger.antt has the one claim about it. Assumes nothing.
+-- The starred cases of document 01's ledger, as one table, with what request T-03 of document 02 changed in the first; proofs/Ledger.antt has
+-- the one claim about it. Assumes nothing.
 use mathlib.Core.List.{List, [], _∷_}
 use Prim.Native.Nat.{ℕ}
 use lib.ListN.{length}
@@ -48,7 +49,7 @@ case ls ps = record { lines = ls; prints = ps }
 unfoldable pub table : List Case
 table =
     case (f 65536 65536 ∷ a 4096 0 ∷ a 8192 14 ∷ f 65536 4096 ∷ f 81920 4096 ∷ f 86016 4096 ∷ a 65536 0 ∷ r 65536 65536 0 ∷ f 131071 2 ∷ r 70000 100 12 ∷ l ∷ [])
-    (ok ∷ at 65536 ∷ at 81920 ∷ ok ∷ ok ∷ ok ∷ nay 3 ∷ nay 1 ∷ nay 4 ∷ ok ∷ (2 ∷ 61440 ∷ 65536 ∷ 69631 ∷ 73728 ∷ 131071 ∷ []) ∷ [])
+    (ok ∷ at 65536 ∷ at 81920 ∷ ok ∷ ok ∷ ok ∷ at 65536 ∷ nay 3 ∷ ok ∷ nay 3 ∷ (1 ∷ 2 ∷ 131071 ∷ 131072 ∷ []) ∷ [])
     ∷ case (f 16384 4096 ∷ f 4096 4096 ∷ a 4096 0 ∷ []) (ok ∷ ok ∷ at 4096 ∷ [])
     ∷ case (f 4096 4096 ∷ f 16384 4096 ∷ a 4096 0 ∷ []) (ok ∷ ok ∷ at 16384 ∷ [])
     ∷ case (f 4096 4096 ∷ f 16384 16384 ∷ a 4096 13 ∷ []) (ok ∷ ok ∷ at 16384 ∷ [])

@@ -1,11 +1,11 @@
 -- The rules of document 01, to be read beside it: what each call answers, and the book that it leaves. n is the number of records.
+-- Request T-03 of document 02 is in force: the last free bytes may be taken.
 -- (A book here is sound; the state that holds it, and the refusal of an unsound one, 2, stand in the crate `state`.) Assumes nothing.
 use mathlib.Core.Bool.{Bool, true, false, cond, _&&_, _||_}
 use mathlib.Core.List.{List, [], _∷_, _++_, map}
 use mathlib.Core.Option.{Option, none, some}
 use Prim.Native.Nat.{ℕ, zero, suc, _+_, _-_, _*_, _/_, _^_}
 use lib.Dec.{leb, ltb, eqb}
-use lib.ListN.{length}
 
 -- ---- ranges and books
 
@@ -127,12 +127,9 @@ meets a t r = ltb (r .start) t && leb a (r .last)
 abbrev pub contains : ℕ → ℕ → Range → Bool
 contains a t r = leb (r .start) a && leb t (suc (r .last))
 
--- the piece leaves bytes of r on both sides; on neither
+-- the piece leaves bytes of r on both sides
 abbrev pub splits : ℕ → ℕ → Range → Bool
 splits a t r = ltb (r .start) a && leb t (r .last)
-
-abbrev pub whole : ℕ → ℕ → Range → Bool
-whole a t r = eqb (r .start) a && eqb t (suc (r .last))
 
 -- z bytes remain in r from its start rounded up
 abbrev pub fits : ℕ → ℕ → Range → Bool
@@ -199,15 +196,14 @@ unfoldable pub allocate : ℕ → ℕ → ℕ → Book → Answer
 allocate n z o b =
     refuse (eqb z 0) 4 b
     (refuse (ltb 63 o) 4 b
-    (refuse (leb (total b) z) 3 b
+    (refuse (ltb (total b) z) 3 b
     (allocateFrom n z o b (find (fits z o) (b .shelf)))))
 
 unfoldable pub reserveFrom : ℕ → ℕ → ℕ → Book → Option Range → Answer
 reserveFrom n a t b none = refused 4 b
 reserveFrom n a t b (some r) =
-    refuse (whole a t r && eqb (length (b .chain)) 1) 1 b
-    (refuse (splits a t r && full n b) 1 b
-    (accepted 0 (taken n r a t b)))
+    refuse (splits a t r && full n b) 1 b
+    (accepted 0 (taken n r a t b))
 
 unfoldable pub reserve : ℕ → ℕ → ℕ → ℕ → Book → Answer
 reserve n s z o b =

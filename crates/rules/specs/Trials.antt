@@ -85,7 +85,8 @@ refusals =
     -- allocate, line by line
     trial 8 (f 8192 8192 ∷ a 0 0 ∷ []) (ok ∷ nay 4 ∷ []) one one
     ∷ trial 8 (f 8192 8192 ∷ a 1 64 ∷ []) (ok ∷ nay 4 ∷ []) one one
-    ∷ trial 8 (f 8192 8192 ∷ a 8192 0 ∷ []) (ok ∷ nay 3 ∷ []) one one
+    ∷ trial 8 (f 8192 8192 ∷ a 8193 0 ∷ []) (ok ∷ nay 3 ∷ []) one one
+    ∷ trial 8 (f 8192 8192 ∷ f 65536 4096 ∷ a 12288 0 ∷ []) (ok ∷ ok ∷ nay 3 ∷ []) two two′
     ∷ trial 8 (f 8192 8192 ∷ f 65536 4096 ∷ a 8193 0 ∷ []) (ok ∷ ok ∷ nay 3 ∷ []) two two′
     ∷ trial 1 (f 8192 8192 ∷ a 4096 13 ∷ a 1 63 ∷ []) (ok ∷ at 8192 ∷ nay 3 ∷ []) (at# 0 12288 16383 ∷ []) (at# 0 12288 16383 ∷ [])
     ∷ trial 1 (f 4096 12288 ∷ a 4096 13 ∷ []) (ok ∷ nay 1 ∷ []) (at# 0 4096 16383 ∷ []) (at# 0 4096 16383 ∷ [])
@@ -106,13 +107,10 @@ refusals =
     ∷ trial 8 (f 8192 8192 ∷ f 65536 4096 ∷ r 12287 2 12 ∷ []) (ok ∷ ok ∷ ok ∷ []) (at# 1 65536 69631 ∷ []) (at# 1 65536 69631 ∷ [])
     ∷ trial 8 (f 8192 8192 ∷ r 8191 2 0 ∷ []) (ok ∷ nay 4 ∷ []) one one
     ∷ trial 8 (f 8192 8192 ∷ r 16383 2 0 ∷ []) (ok ∷ nay 4 ∷ []) one one
-    ∷ trial 8 (f 8192 8192 ∷ r 8192 8192 0 ∷ []) (ok ∷ nay 1 ∷ []) one one
-    ∷ trial 8 (f 8192 8192 ∷ r 8193 8190 13 ∷ []) (ok ∷ nay 1 ∷ []) one one
     ∷ trial 8 (f 8192 8192 ∷ r 8192 8191 0 ∷ []) (ok ∷ ok ∷ []) (at# 0 16383 16383 ∷ []) (at# 0 16383 16383 ∷ [])
     ∷ trial 8 (f 8192 8192 ∷ r 8193 8191 0 ∷ []) (ok ∷ ok ∷ []) (at# 0 8192 8192 ∷ []) (at# 0 8192 8192 ∷ [])
     ∷ trial 1 (f 8192 8192 ∷ r 8193 8190 0 ∷ []) (ok ∷ nay 1 ∷ []) one one
     ∷ trial 1 (f 4096 12288 ∷ r 4096 4096 0 ∷ []) (ok ∷ ok ∷ []) one one
-    ∷ trial 1 (f 8192 8192 ∷ r 8193 8191 0 ∷ r 8192 1 0 ∷ []) (ok ∷ ok ∷ nay 1 ∷ []) (at# 0 8192 8192 ∷ []) (at# 0 8192 8192 ∷ [])
     ∷ trial 8 (f 8192 8192 ∷ f 9223372036854775807 1 ∷ r 9223372036854775807 1 0 ∷ []) (ok ∷ ok ∷ ok ∷ []) one one
     -- free, line by line
     ∷ trial 8 (f 8192 8192 ∷ f 0 0 ∷ []) (ok ∷ nay 4 ∷ []) one one
@@ -128,6 +126,30 @@ refusals =
     ∷ trial 2 (f 8192 4096 ∷ f 12289 4095 ∷ f 12288 1 ∷ []) (ok ∷ ok ∷ ok ∷ []) one one
     ∷ []
 
+-- ---- the last bytes go out, and others come back
+
+unfoldable pub emptied : List Trial
+emptied =
+    -- the only range, whole: allocated, aligned or not, and reserved, as asked for or once it is widened
+    trial 8 (f 8192 8192 ∷ a 8192 0 ∷ l ∷ []) (ok ∷ at 8192 ∷ (0 ∷ 0 ∷ []) ∷ []) [] []
+    ∷ trial 8 (f 4096 4096 ∷ a 4096 12 ∷ []) (ok ∷ at 4096 ∷ []) [] []
+    ∷ trial 8 (f 4096 4096 ∷ a 4096 13 ∷ []) (ok ∷ nay 3 ∷ []) (at# 0 4096 8191 ∷ []) (at# 0 4096 8191 ∷ [])
+    ∷ trial 8 (f 8192 8192 ∷ r 8192 8192 0 ∷ []) (ok ∷ ok ∷ []) [] []
+    ∷ trial 8 (f 8192 8192 ∷ r 8193 8190 13 ∷ []) (ok ∷ ok ∷ []) [] []
+    ∷ trial 8 (f 0 9223372036854775808 ∷ r 5 1 63 ∷ []) (ok ∷ ok ∷ []) [] []
+    -- of a single byte; and in two steps, the last of which leaves nothing
+    ∷ trial 1 (f 7 1 ∷ a 1 0 ∷ []) (ok ∷ at 7 ∷ []) [] []
+    ∷ trial 1 (f 8192 8192 ∷ r 8193 8191 0 ∷ r 8192 1 0 ∷ []) (ok ∷ ok ∷ ok ∷ []) [] []
+    -- an empty book refuses every take with 3, as it did at first
+    ∷ trial 8 (f 4096 4096 ∷ a 4096 0 ∷ a 1 0 ∷ r 4096 1 0 ∷ r 0 1 0 ∷ []) (ok ∷ at 4096 ∷ nay 3 ∷ nay 3 ∷ nay 3 ∷ []) [] []
+    -- the record is unused again: the next free has record 0, and where there is only one it has that
+    ∷ trial 1 (f 4096 4096 ∷ a 4096 0 ∷ f 65536 1 ∷ []) (ok ∷ at 4096 ∷ ok ∷ []) (at# 0 65536 65536 ∷ []) (at# 0 65536 65536 ∷ [])
+    -- handed back, the last range is there again; its record is 0, where it was 1
+    ∷ trial 8 (f 0 4096 ∷ f 65536 4096 ∷ r 0 4096 0 ∷ l ∷ []) (ok ∷ ok ∷ ok ∷ (1 ∷ 4096 ∷ 65536 ∷ 69631 ∷ []) ∷ []) (at# 1 65536 69631 ∷ []) (at# 1 65536 69631 ∷ [])
+    ∷ trial 8 (f 0 4096 ∷ f 65536 4096 ∷ r 0 4096 0 ∷ a 4096 0 ∷ f 65536 4096 ∷ l ∷ []) (ok ∷ ok ∷ ok ∷ at 65536 ∷ ok ∷ (1 ∷ 4096 ∷ 65536 ∷ 69631 ∷ []) ∷ [])
+    (at# 0 65536 69631 ∷ []) (at# 0 65536 69631 ∷ [])
+    ∷ []
+
 -- ---- bytes and vouchers
 
 -- a history over few bytes, one call of each kind refused
@@ -141,11 +163,27 @@ bytes = 3 ∷ 4 ∷ 5 ∷ 6 ∷ 7 ∷ 8 ∷ 9 ∷ 10 ∷ 11 ∷ 12 ∷ 15 ∷ 16
 unfoldable pub isFree : List Bool
 isFree = false ∷ true ∷ false ∷ true ∷ true ∷ false ∷ false ∷ false ∷ false ∷ true ∷ true ∷ false ∷ true ∷ true ∷ false ∷ true ∷ false ∷ []
 
-unfoldable pub byBook : List ℕ → List Bool
-byBook xs = map (λ (x : ℕ). freeAt (left 8 empty small) x) xs
+unfoldable pub byBook : List Line → List ℕ → List Bool
+byBook ls xs = map (λ (x : ℕ). freeAt (left 8 empty ls) x) xs
 
-unfoldable pub byVouchers : List ℕ → List Bool
-byVouchers xs = map (λ (x : ℕ). said false (lastCovering x (vouchersOf 8 empty small))) xs
+unfoldable pub byVouchers : List Line → List ℕ → List Bool
+byVouchers ls xs = map (λ (x : ℕ). said false (lastCovering x (vouchersOf 8 empty ls))) xs
+
+-- one that takes all its bytes, and is given others; the bytes of both, before these come and after
+unfoldable pub gone : List Line
+gone = f 4 3 ∷ a 3 0 ∷ []
+
+unfoldable pub returned : List Line
+returned = f 4 3 ∷ a 3 0 ∷ f 6 2 ∷ []
+
+unfoldable pub few : List ℕ
+few = 3 ∷ 4 ∷ 5 ∷ 6 ∷ 7 ∷ 8 ∷ []
+
+unfoldable pub goneFree : List Bool
+goneFree = false ∷ false ∷ false ∷ false ∷ false ∷ false ∷ []
+
+unfoldable pub returnedFree : List Bool
+returnedFree = false ∷ false ∷ false ∷ true ∷ true ∷ false ∷ []
 
 -- ---- sizes
 

@@ -1,7 +1,7 @@
 use mathlib.Core.Path.{refl, sym, _∙_}
 use borrow.Author.Needs.{needs}
 use Rattle.state.specs.Shown.{pool}
-use Rattle.calls.specs.declared.Answer.the-variants.{InvalidRequest, NoEntry}
+use Rattle.calls.specs.declared.Answer.the-variants.{InvalidRequest}
 use Rattle.calls.proofs.Endings.{refusal}
 use Rattle.entries.proofs.Endings.{moved, unmoved}
 use Rattle.chain.proofs.Held.{chain-ordered}
@@ -9,12 +9,9 @@ use Rattle.reserving.proofs.Reserve.{not-inside, inside}
 use Rattle.reserving.proofs.reserve_piece.Statement.{statement}
 use Rattle.reserving.proofs.reserve_piece.Tie as tie
 
--- back over the ten lent fields; from the test for the only range to the record that was found; and from there to the start
-abbrev unlent : tie.After-define-used-memory-arg10 → tie.Else1
-unlent c = let m = c .before .before .before .before .before in m .before .before .before .before .before
-
-abbrev at-hit : tie.After-is-whole-chain → tie.After-hit
-at-hit c = c .before .before .before .before .before
+-- back over the ten lent fields to the record that was found, and from there to the start
+abbrev at-hit : tie.After-define-used-memory-arg10 → tie.After-hit
+at-hit c = let m = c .before .before .before .before .before in m .before .before .before .before .before .before
 
 abbrev at-start : tie.After-hit → tie.Start
 at-start c = c .before .before .before .before .before .before .before
@@ -39,26 +36,9 @@ returns c b h =
     (not-inside pool _ _ b (s .1 .0) (sym (c .enum-told .given .1) ∙ f .search-entry-containing-address .ensures (b .chain) (chain-ordered pool b _ h)))
     refl refl h
 
-is-whole-chain-requires : tie.Need-is-whole-chain-requires
-is-whole-chain-requires c κs =
-    let f = c .before .before .before .before in
-    let s = at-start f .pre in
-    let u = s .0 in
-    let q = sym (f .hit .given .1) ∙ f .before .before .search-entry-containing-address .ensures (u .0 .chain) (chain-ordered pool (u .0) _ (u .1)) in
-    let g = inside pool _ _ (u .0) (s .1 .0) _ _ (u .1) q in
-    ((u .0 .chain, g .range, g .chosen), s .1 .0)
-
-returns-2 : tie.Need-returns-2
-returns-2 c b h =
-    let w = c .before in
-    let f = at-hit w in
-    let q = sym (f .hit .given .1) ∙ f .before .before .search-entry-containing-address .ensures (b .chain) (chain-ordered pool b _ h) in
-    let g = inside pool _ _ b (at-start f .pre .1 .0) _ _ h q in
-    refusal pool 1 b _ NoEntry _ (g .only (sym (w .is-whole-chain .ensures (b .chain) (g .range) (g .chosen)) ∙ c .if1 .taken)) refl refl h
-
 define-used-memory-requires : tie.Need-define-used-memory-requires
 define-used-memory-requires c κs =
-    let f = at-hit (unlent c .before) in
+    let f = at-hit c in
     let s = at-start f .pre in
     let u = s .0 in
     let q = sym (f .hit .given .1) ∙ f .before .before .search-entry-containing-address .ensures (u .0 .chain) (chain-ordered pool (u .0) _ (u .1)) in
@@ -68,30 +48,24 @@ define-used-memory-requires c κs =
 enum-told-2 : tie.Need-enum-told-2
 enum-told-2 c = search needs
 
-returns-3 : tie.Need-returns-3
-returns-3 c b h =
+returns-2 : tie.Need-returns-2
+returns-2 c b h =
     let d = c .before .before in
-    let e = unlent (d .before) in
-    let w = e .before in
-    let f = at-hit w in
+    let f = at-hit (d .before) in
     let q = sym (f .hit .given .1) ∙ f .before .before .search-entry-containing-address .ensures (b .chain) (chain-ordered pool b _ h) in
     let g = inside pool _ _ b (at-start f .pre .1 .0) _ _ h q in
-    let a = g .answer (sym (w .is-whole-chain .ensures (b .chain) (g .range) (g .chosen)) ∙ e .if1 .left) in
-    moved pool _ b _ _ _ a _ _ (d .define-used-memory .ensures b (g .range) (g .asks)) (c .enum-told2 .given .1)
+    moved pool _ b _ _ _ (g .answer) _ _ (d .define-used-memory .ensures b (g .range) (g .asks)) (c .enum-told2 .given .1)
 
 enum-told-3 : tie.Need-enum-told-3
 enum-told-3 c = search needs
 
-returns-4 : tie.Need-returns-4
-returns-4 c b h =
+returns-3 : tie.Need-returns-3
+returns-3 c b h =
     let d = c .before .before in
-    let e = unlent (d .before) in
-    let w = e .before in
-    let f = at-hit w in
+    let f = at-hit (d .before) in
     let q = sym (f .hit .given .1) ∙ f .before .before .search-entry-containing-address .ensures (b .chain) (chain-ordered pool b _ h) in
     let g = inside pool _ _ b (at-start f .pre .1 .0) _ _ h q in
-    let a = g .answer (sym (w .is-whole-chain .ensures (b .chain) (g .range) (g .chosen)) ∙ e .if1 .left) in
-    unmoved pool _ b _ _ _ a _ _ (d .define-used-memory .ensures b (g .range) (g .asks)) (c .enum-told3 .given .1)
+    unmoved pool _ b _ _ _ (g .answer) _ _ (d .define-used-memory .ensures b (g .range) (g .asks)) (c .enum-told3 .given .1)
 
 pub reserve-piece-spec : {M : Type 1} → statement M
 reserve-piece-spec =
@@ -101,10 +75,8 @@ reserve-piece-spec =
     enum-known-hit
     enum-told
     returns
-    is-whole-chain-requires
-    returns-2
     define-used-memory-requires
     enum-told-2
     enum-told-3
-    returns-3
-    returns-4)
+    returns-2
+    returns-3)
