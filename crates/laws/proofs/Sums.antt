@@ -1,12 +1,12 @@
 -- Sums of sizes: what a range that is put in or taken out makes of the total, and how many bytes lie between two addresses. Assumes nothing.
-use mathlib.Core.Path.{_≡_, refl, sym, subst}
+use mathlib.Core.Path.{_≡_, refl, sym, ap, _∙_, subst}
 use mathlib.Core.Logic.{inl, inr}
 use mathlib.Core.List.{List, [], _∷_, _++_}
 use Prim.Native.Nat.{ℕ, suc, _+_, _-_, _≤_}
 use native.Mathlib.Omega.{arith}
 use lib.Dec.{T, leb, eqb, eqb→eq, eqb-refl}
-use Rattle.rules.specs.Rules.{Range, startOf, size, Book, sum, total, before, without, put, remove}
-use Rattle.rules.specs.Sound.{In, Pairwise, Ahead, Other, Sound}
+use Rattle.rules.specs.Rules.{Range, startOf, size, Book, empty, sum, total, before, without, put, remove}
+use Rattle.rules.specs.Sound.{In, Pairwise, Ahead, Other, Good, Sound}
 use Rattle.laws.proofs.Lists.{if, T-no}
 use Rattle.laws.proofs.Shelf.{without-none}
 
@@ -47,3 +47,21 @@ total-put q b = sum-before startOf q (b .chain)
 pub total-remove : (n : ℕ) (r : Range) (b : Book) → Sound n b → In r (b .chain) → total b ≡ size r + total (remove r b)
 unfolding remove
 total-remove n r b s m = sum-without r (b .chain) (s .once) m
+
+-- ---- without a byte
+
+no-range : (n : ℕ) (c : List Range) → ((r : Range) → In r c → Good n r) → sum c ≡ 0 → c ≡ []
+unfolding sum
+no-range n [] g e = refl
+no-range n (r ∷ c) g e = absurd (let h = g r (inl refl) .proper in omega arith)
+
+no-member : (c : List Range) → ((r : Range) → In r c → ⊥) → c ≡ []
+no-member [] h = refl
+no-member (r ∷ c) h = absurd (h r (inl refl))
+
+-- A sound book whose total is 0 is the empty one, wherever it comes from.
+pub total-none : (n : ℕ) (b : Book) → Sound n b → total b ≡ 0 → b ≡ empty
+total-none n b s e =
+    let c : b .chain ≡ [] = no-range n (b .chain) (s .good) e in
+    let l : b .shelf ≡ [] = no-member (b .shelf) (λ r i. subst (In r) c (s .same r .1 i)) in
+    ap (λ (x : List Range). record { chain = x; shelf = b .shelf }) c ∙ ap (λ (x : List Range). record { chain = []; shelf = x }) l
