@@ -41,7 +41,7 @@
 #define CINGHJALOFA_MOST_PAGES (UINT64_C(1) << 51)
 
 /* The refusals. */
-#define CINGHJALOFA_NO_ENTRY (-1)        /* a record is needed and none is unused, or the only range would go whole */
+#define CINGHJALOFA_NO_ENTRY (-1)        /* a record is needed and none is unused */
 #define CINGHJALOFA_INVALID_ENTRY (-2)   /* the slice is no image of a sound allocator */
 #define CINGHJALOFA_NO_MEMORY (-3)       /* too few free bytes, or no free range fits */
 #define CINGHJALOFA_INVALID_REQUEST (-4) /* size or count 0, order above 63, or a bad or overlapping range */
@@ -69,7 +69,7 @@ int64_t cinghjalofa_new(uint8_t *image, size_t len);
  * range that fits once its start is rounded up; smaller ranges are tried first, and the newest first among equals.
  *   -2  len is not CINGHJALOFA_IMAGE_BYTES, or the image is not sound
  *   -4  size is 0, or order is above 63
- *   -3  size is the total or more (the last free bytes are never handed out), or no range fits
+ *   -3  size is above the total, or no range fits
  *   -1  the chosen range would fall into two pieces and all records are used; no further range is tried
  */
 int64_t cinghjalofa_allocate(uint8_t *image, size_t len, uint64_t size, uint64_t order);
@@ -83,7 +83,6 @@ int64_t cinghjalofa_allocate(uint8_t *image, size_t len, uint64_t size, uint64_t
  *   -4  start + size is above 2^63
  *   -3  the widened size is above the total
  *   -4  the widened range does not lie inside one free range
- *   -1  the widened range is the only free range, whole
  *   -1  the free range would fall into two pieces and all records are used
  */
 int64_t cinghjalofa_reserve_memory(uint8_t *image, size_t len, uint64_t start, uint64_t size, uint64_t order);

@@ -79,7 +79,7 @@ pub fn new(image: &mut [u8]) -> i64 {
 /// range that fits once its start is rounded up; smaller ranges are tried first, and the newest first among equals.
 /// - -2: the slice is not `IMAGE_BYTES` long, or the image is not sound
 /// - -4: `size` is 0, or `order` is above 63
-/// - -3: `size` is the total or more (the last free bytes are never handed out), or no range fits
+/// - -3: `size` is above the total, or no range fits
 /// - -1: the chosen range would fall into two pieces and all records are used; no further range is tried
 pub fn allocate(image: &mut [u8], size: u64, order: u64) -> i64 {
     unsafe { cinghjalofa_allocate(image.as_mut_ptr(), image.len(), size, order) }
@@ -93,7 +93,6 @@ pub fn allocate(image: &mut [u8], size: u64, order: u64) -> i64 {
 /// - -4: `start + size` is above 2^63
 /// - -3: the widened size is above the total
 /// - -4: the widened range does not lie inside one free range
-/// - -1: the widened range is the only free range, whole
 /// - -1: the free range would fall into two pieces and all records are used
 pub fn reserve_memory(image: &mut [u8], start: u64, size: u64, order: u64) -> i64 {
     unsafe { cinghjalofa_reserve_memory(image.as_mut_ptr(), image.len(), start, size, order) }

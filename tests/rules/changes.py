@@ -9,14 +9,14 @@ OTHERS = {
     "leb": ["ltb"], "ltb": ["leb"], "eqb": ["leb"], "&&": ["||"], "||": ["&&"], "true": ["false"], "false": ["true"],
     "start": ["last"], "last": ["start"], "number": ["start"], "chain": ["shelf"], "shelf": ["chain"],
     "up": ["down"], "down": ["up"], "put": ["remove"], "remove": ["put"], "lower": ["upper"], "upper": ["lower"],
-    "startOf": ["size"], "size": ["startOf"], "splits": ["whole", "meets"], "whole": ["splits"], "meets": ["contains"], "contains": ["meets"],
+    "startOf": ["size"], "size": ["startOf"], "splits": ["meets"], "meets": ["contains"], "contains": ["meets"],
     "a": ["t"], "t": ["a"], "l": ["u"], "u": ["l"], "r": ["q"], "q": ["r"], "s": ["z"], "z": ["s"],
     "i": ["0"], "j": ["0"], "n": ["0"], "k": ["0"], "o": ["0"], "x": ["0"], "b": ["empty"], "top": ["0"],
     "+": ["-"], "-": ["+"], "*": ["+"], "/": ["*"], "suc": [""],
 }  # fmt: skip
 
 # A book's chain and shelf have the same ranges, so that what asks no order asks either. No two ranges overlap, so that they have one
-# order by first and by last bytes. A number that is at most 0 is 0, and a book with a range has at least one.
+# order by first and by last bytes. A number that is at most 0 is 0.
 SAME = {
     ("startOf r = r .start", "startOf r = r .last"),
     ("total b = sum (b .chain)", "total b = sum (b .shelf)"),
@@ -25,8 +25,6 @@ SAME = {
     ("lower a b = find (λ r. eqb (suc (r .last)) a) (b .chain)", "lower a b = find (λ r. eqb (suc (r .last)) a) (b .shelf)"),
     ("upper t b = find (λ r. eqb (r .start) t) (b .chain)", "upper t b = find (λ r. eqb (r .start) t) (b .shelf)"),
     ("refuse (eqb z 0) 4 b", "refuse (leb z 0) 4 b"),
-    ("refuse (whole a t r && eqb (length (b .chain)) 1) 1 b", "refuse (whole a t r && leb (length (b .chain)) 1) 1 b"),
-    ("refuse (whole a t r && eqb (length (b .chain)) 1) 1 b", "refuse (whole a t r && eqb (length (b .shelf)) 1) 1 b"),
     (
         "(reserveFrom n (down o s) (up o (s + z)) b (find (contains (down o s) (up o (s + z))) (b .chain)))))))",
         "(reserveFrom n (down o s) (up o (s + z)) b (find (contains (down o s) (up o (s + z))) (b .shelf)))))))",
@@ -38,17 +36,25 @@ SAME = {
     ),
 }
 
+# Of one definition alone: in no book does a range fit that has more bytes than all of them, and that none fits is 3 too.
+SAME_IN = {
+    ("allocate", "(refuse (ltb (total b) z) 3 b", "(refuse false 0 b"),
+}
+DEFINED = re.compile(r"(\w+) .*=")
+
 
 @dataclass
 class Change:
     line: int
+    definition: str
     old: str
     new: str
     text: str
 
     @property
-    def key(self):
-        return self.old, self.new
+    def is_same(self):
+        """Whether no call can show it."""
+        return (self.old, self.new) in SAME or (self.definition, self.old, self.new) in SAME_IN
 
 
 def _others(word):
@@ -78,8 +84,11 @@ def _some(found, most):
 
 def changes(text, most):
     lines = text.split("\n")
+    definition = ""
     for at, line in enumerate(lines):
         if not line.strip() or HEADS.match(line):
             continue
+        begun = DEFINED.match(line)
+        definition = begun[1] if begun else definition
         for new in _some(list(_of_line(line)), most):
-            yield Change(at + 1, line.strip(), new.strip(), "\n".join(lines[:at] + [new] + lines[at + 1 :]))
+            yield Change(at + 1, definition, line.strip(), new.strip(), "\n".join(lines[:at] + [new] + lines[at + 1 :]))

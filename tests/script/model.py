@@ -1,4 +1,5 @@
-"""Document 01's rules on plain lists: the chain, the shelf and the records, as the paper words them. Knows nothing of the port."""
+"""Document 01's rules, with document 02's T-03, on plain lists: the chain, the shelf and the records, as the papers word them. Knows nothing of
+the port."""
 
 TOP = 2**63
 
@@ -47,7 +48,7 @@ class Book:
     def allocate(self, size, order):
         if size == 0 or order > 63:
             return 4, 0
-        if size >= self.total():
+        if size > self.total():
             return 3, 0
         for found in self.shelf:
             start = up(found[0], order)
@@ -69,8 +70,6 @@ class Book:
         found = next((r for r in self.shelf if r[0] <= start and past <= r[1] + 1), None)
         if found is None:
             return 4
-        if len(self.shelf) == 1 and (start, past - 1) == found[:2]:
-            return 1
         return self.take(found, start, past)
 
     def free(self, start, size):

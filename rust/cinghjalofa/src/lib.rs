@@ -24,7 +24,7 @@ pub const PAGE_BYTES: usize = calls::PAGE_BYTES as usize;
 /// Why a call was refused. A refused call has changed nothing.
 #[derive(Clone, Copy, PartialEq, Eq, Debug)]
 pub enum MemoryError {
-    /// A record is needed and all 64 are in use, or a reserve would take the only range whole.
+    /// A record is needed and all 64 are in use.
     NoEntry,
     /// The bytes are no image of a sound allocator.
     InvalidEntry,

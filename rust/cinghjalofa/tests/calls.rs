@@ -19,19 +19,39 @@ fn ranges_of(memory: &MemoryAllocator) -> Vec<(usize, usize)> {
 }
 
 #[test]
-fn the_script_of_document_01() {
+fn the_script_of_document_01_with_the_last_range_out() {
     let mut memory = with_free(&[(65536, 65536)]);
     assert_eq!(memory.allocate(4096, 0), Ok(65536));
     assert_eq!(memory.allocate(8192, 14), Ok(81920));
     assert_eq!(memory.free(65536, 4096), Ok(()));
     assert_eq!(memory.free(81920, 4096), Ok(()));
     assert_eq!(memory.free(86016, 4096), Ok(()));
-    assert_eq!(memory.allocate(65536, 0), Err(MemoryError::NoMemory));
-    assert_eq!(memory.reserve_memory(65536, 65536, 0), Err(MemoryError::NoEntry));
-    assert_eq!(memory.free(131071, 2), Err(MemoryError::InvalidRequest));
-    assert_eq!(memory.reserve_memory(70000, 100, 12), Ok(()));
-    assert_eq!(memory.total(), 61440);
-    assert_eq!(ranges_of(&memory), [(65536, 69631), (73728, 131071)]);
+    assert_eq!(memory.allocate(65536, 0), Ok(65536));
+    assert_eq!(memory.reserve_memory(65536, 65536, 0), Err(MemoryError::NoMemory));
+    assert_eq!(memory.free(131071, 2), Ok(()));
+    assert_eq!(memory.reserve_memory(70000, 100, 12), Err(MemoryError::NoMemory));
+    assert_eq!(memory.total(), 2);
+    assert_eq!(ranges_of(&memory), [(131071, 131072)]);
+}
+
+/// Each takes the last free bytes in another way. What is left is the image of `new`, and it goes on as one.
+#[test]
+fn an_emptied_allocator_is_a_new_one() {
+    let takes: [fn(&mut MemoryAllocator) -> bool; 4] = [
+        |memory| memory.allocate(4096, 12) == Ok(4096),
+        |memory| memory.reserve_memory(4096, 4096, 0).is_ok(),
+        |memory| memory.reserve_memory(5000, 1, 12).is_ok(),
+        |memory| memory.allocate_pages(1, 0) == Ok(4096),
+    ];
+    for (number, take) in takes.iter().enumerate() {
+        let mut memory = with_free(&[(65536, 2), (4096, 4096)]);
+        assert_eq!(memory.reserve_memory(65536, 2, 0), Ok(()));
+        assert!(take(&mut memory), "take {number}");
+        assert_eq!((memory.total(), memory.image()), (0, MemoryAllocator::new().image()), "take {number}");
+        assert_eq!(memory.allocate(1, 0), Err(MemoryError::NoMemory));
+        assert_eq!(memory.free(9000, 7), Ok(()));
+        assert_eq!(memory.image(), with_free(&[(9000, 7)]).image(), "take {number}");
+    }
 }
 
 #[test]
@@ -124,7 +144,8 @@ fn pages_that_cannot_be() {
     assert_eq!(memory.image(), MemoryAllocator::new().image());
     assert_eq!(memory.free_pages(0, MOST_PAGES), Ok(()));
     assert_eq!((memory.total(), ranges_of(&memory)), (TOP, vec![(0, TOP - 1)]));
-    assert_eq!(memory.allocate_pages(MOST_PAGES, 12), Err(MemoryError::NoMemory));
+    assert_eq!(memory.allocate_pages(MOST_PAGES, 12), Ok(0));
+    assert_eq!(memory.image(), MemoryAllocator::new().image());
     assert_eq!(with_free(&[(2048, 4096)]).free_pages(0, 1), Err(MemoryError::InvalidRequest));
 }
 

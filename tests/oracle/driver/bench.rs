@@ -53,6 +53,22 @@ impl Bench {
         self.rule(call, &step).map_err(|text| NoRuling::Quarrel(format!("`{call}`: {text}")))
     }
 
+    /// Whether both oracles refuse a call for the last bytes, as the Rust's habit is. Copies are asked: nothing changes.
+    pub fn keeps_the_last_bytes(&self, call: Call) -> Result<(), String> {
+        let habit = if matches!(call, Call::Allocate { .. }) { 3 } else { 1 };
+        let answer = self.counting.copy().play(call);
+        if answer != Answer::Refused(habit) {
+            return Err(format!("{COUNTING} says `{}`, its habit is `no {habit}`", answer.printed_for(&call)));
+        }
+        if self.has_wrapped() {
+            return Ok(());
+        }
+        match self.untouched.copy().play(call) {
+            Answer::Refused(_) => Ok(()),
+            answer => Err(format!("{UNTOUCHED} says `{}`, its habit is to refuse", answer.printed_for(&call))),
+        }
+    }
+
     /// Everything that decides how later calls are answered.
     pub fn fingerprint(&self) -> Vec<u8> {
         let mut bytes = self.drifted_total.to_be_bytes().to_vec();

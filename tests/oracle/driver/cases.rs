@@ -4,14 +4,8 @@ use crate::call::{parse_history, Call};
 
 const NAMED: &[(&str, &str)] = &[
     (
-        "ledger-script-to-its-eighth-call",
-        "f 65536 65536 | a 4096 0 | a 8192 14 | f 65536 4096 | f 81920 4096 | f 86016 4096 | a 65536 0 \
-         | r 65536 65536 0",
-    ),
-    (
-        "ledger-script-without-its-ninth-call",
-        "f 65536 65536 | a 4096 0 | a 8192 14 | f 65536 4096 | f 81920 4096 | f 86016 4096 | a 65536 0 \
-         | r 65536 65536 0 | r 70000 100 12",
+        "ledger-script-to-its-sixth-call-and-its-tenth",
+        "f 65536 65536 | a 4096 0 | a 8192 14 | f 65536 4096 | f 81920 4096 | f 86016 4096 | r 70000 100 12",
     ),
     ("ledger-newest-equal-below", "f 16384 4096 | f 4096 4096 | a 4096 0"),
     ("ledger-newest-equal-above", "f 4096 4096 | f 16384 4096 | a 4096 0"),
@@ -20,12 +14,14 @@ const NAMED: &[(&str, &str)] = &[
     ("ledger-allocate-from-empty", "a 1 0"),
     ("ledger-reserve-from-empty", "r 0 1 0"),
     ("ledger-range-at-the-top", "f 9223372036854771712 4096"),
-    ("reading-whole-space", "f 0 9223372036854775808 | r 1 1 63 | a 9223372036854775808 0 | a 9223372036854775806 0"),
+    ("reading-whole-space", "f 0 9223372036854775808 | a 9223372036854775806 0"),
     ("reading-size-before-widening", "f 4096 50 | r 8192 51 0 | r 8192 50 0 | r 8192 1 12"),
     ("reading-exclusive-end-on-a-multiple", "f 0 16384 | r 4096 4096 12 | r 8193 1 12"),
     ("reading-order-63-widens-to-all", "f 4096 4096 | r 0 1 63"),
     ("reading-rounding-passes-the-end", "f 4097 4096 | f 16385 100 | a 10 13 | a 10 63"),
-    ("reading-only-range-once-widened", "f 4096 4096 | r 5000 10 12"),
+    ("reading-whole-range-once-widened", "f 4096 4096 | f 65536 4096 | r 5000 10 12"),
+    ("request-size-of-total-in-two-ranges", "f 0 4096 | f 8192 4096 | a 8192 0"),
+    ("request-size-of-total-without-fit", "f 4096 4096 | a 4096 13"),
     ("reading-tail-needs-no-record", "f 4097 8191 | f 65536 16384 | a 4096 13"),
     ("reading-lower-number-not-the-smaller", "f 8192 4096 | f 0 4096 | f 4096 4096"),
     ("reading-upper-number-at-one-neighbour", "f 8192 4096 | f 4096 4096 | f 65536 4096"),

@@ -19,7 +19,7 @@ pub enum Played {
         answer: Answer,
         with_untouched: bool,
     },
-    /// Not played; nothing has changed.
+    /// Not played, or by copies alone: nothing has changed.
     Outside(Outside),
     Mismatch(String),
 }
@@ -37,7 +37,12 @@ impl Players {
     pub fn play(&mut self, call: Call) -> Played {
         let ruling = match self.bench.play(call) {
             Ok(ruling) => ruling,
-            Err(NoRuling::Outside(why)) => return Played::Outside(why),
+            Err(NoRuling::Outside(why)) => {
+                return match self.parts(call, why) {
+                    Ok(()) => Played::Outside(why),
+                    Err(text) => Played::Mismatch(format!("at `{call}` (the last bytes): {text}")),
+                };
+            }
             Err(NoRuling::Quarrel(text)) => return Played::Mismatch(format!("the judges differ at {text}")),
         };
         match self.port_follows(call, &ruling) {
@@ -46,6 +51,26 @@ impl Players {
             }
             Err(text) => Played::Mismatch(format!("at `{call}` ({}): {text}", ruling.kind.text())),
         }
+    }
+
+    /// Where a history leaves the domain by taking the last bytes it is known what each side does: the Rust refuses, the
+    /// port accepts, and its image is then that of the empty allocator, byte for byte. Copies are asked.
+    fn parts(&self, call: Call, why: Outside) -> Result<(), String> {
+        let address = match why {
+            Outside::TakesTheLastBytes { address, .. } => address,
+            _ => return Ok(()),
+        };
+        self.bench.keeps_the_last_bytes(call)?;
+        let mut port = self.port.clone();
+        let answer = port.play(call);
+        if answer != Answer::Accepted(address) {
+            let (answer, due) = (answer.printed_for(&call), Answer::Accepted(address).printed_for(&call));
+            return Err(format!("answer: the port `{answer}`, due is `{due}`"));
+        }
+        if port.image != Port::new().image {
+            return Err("the port is empty, and its image is not that of a new one".to_string());
+        }
+        Ok(())
     }
 
     fn port_follows(&mut self, call: Call, ruling: &Ruling) -> Result<(), String> {

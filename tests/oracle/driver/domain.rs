@@ -36,6 +36,11 @@ pub enum Outside {
     OneByteRangeMade,
     FreeOverlapsPartly,
     ReservePastARangesEnd,
+    /// Document 02's T-03 hands them out, from `address` on for an allocation; the Rust keeps them.
+    TakesTheLastBytes {
+        kind: Kind,
+        address: u64,
+    },
 }
 
 /// What a call inside the domain does.
@@ -144,8 +149,8 @@ impl Model {
     }
 
     fn allocate(&self, size: u64, order: u64) -> Result<Step, Outside> {
-        if size >= self.total {
-            return Step::refused(Kind::AllocateOfTotal);
+        if size > self.total {
+            return Step::refused(Kind::AllocateOverTotal);
         }
         let fitting = self.ranges.iter().enumerate().filter_map(|(at, range)| {
             range.fitting_start(size, order).map(|address| (range.size(), Reverse(range.placed), at, address))
@@ -154,6 +159,9 @@ impl Model {
             Some((_, _, at, address)) => (at, address),
             None => return Step::refused(Kind::AllocateWithoutFit),
         };
+        if size == self.total {
+            return Err(Outside::TakesTheLastBytes { kind: Kind::AllocateOfLastBytes, address });
+        }
         let kinds = [Kind::AllocateWhole, Kind::AllocateFront, Kind::AllocateTail, Kind::AllocateMiddle];
         let step = self.take(at, address, address + size - 1, kinds, Kind::AllocateWithoutRecord)?;
         Ok(if step.kind.number() == 0 { Step { address, ..step } } else { step })
@@ -178,7 +186,7 @@ impl Model {
             None => return Step::refused(Kind::ReserveOfUsedBytes),
         };
         if self.ranges.len() == 1 && (low, high) == (range.start, range.end) {
-            return Step::refused(Kind::ReserveOfOnlyRange);
+            return Err(Outside::TakesTheLastBytes { kind: Kind::ReserveOfLastBytes, address: 0 });
         }
         let kinds = [Kind::ReserveWhole, Kind::ReserveFront, Kind::ReserveTail, Kind::ReserveMiddle];
         self.take(at, low, high, kinds, Kind::ReserveWithoutRecord)

@@ -57,7 +57,10 @@ impl Exhaustive {
     /// Whether the call was accepted, so that the state is another.
     fn play(&self, branch: &mut Players, history: &[Call], call: Call, tally: &mut Tally) -> Result<bool, Mismatch> {
         match branch.play(call) {
-            Played::Outside(_) => Ok(false),
+            Played::Outside(why) => {
+                tally.count_outside(call, why);
+                Ok(false)
+            }
             Played::Agreed { kind, answer, with_untouched } => {
                 tally.count(call, kind, with_untouched);
                 Ok(answer.is_accepted())

@@ -35,14 +35,15 @@ kinds! {
     AllocateFront, "allocate", 0, "the front of a range";
     AllocateTail, "allocate", 0, "the tail of a range";
     AllocateMiddle, "allocate", 0, "the middle of a range, split";
+    AllocateOfLastBytes, "allocate", 0, "the last bytes, which the Rust refuses with 3";
     AllocateWithoutRecord, "allocate", 1, "split needed, all records used";
-    AllocateOfTotal, "allocate", 3, "size at or above the total";
+    AllocateOverTotal, "allocate", 3, "size above the total";
     AllocateWithoutFit, "allocate", 3, "no range fits";
     ReserveWhole, "reserve", 0, "a whole range";
     ReserveFront, "reserve", 0, "the front of a range";
     ReserveTail, "reserve", 0, "the tail of a range";
     ReserveMiddle, "reserve", 0, "the middle of a range, split";
-    ReserveOfOnlyRange, "reserve", 1, "the only range, whole";
+    ReserveOfLastBytes, "reserve", 0, "the last bytes, which the Rust refuses with 1";
     ReserveWithoutRecord, "reserve", 1, "split needed, all records used";
     ReserveOverTotal, "reserve", 3, "size above the total";
     ReserveWidenedOverTotal, "reserve", 3, "widened size above the total";

@@ -68,7 +68,10 @@ impl Random {
         while history.len() < length && refused_proposals < PATIENCE {
             let call = generator.propose(&players.bench.model);
             match players.play(call) {
-                Played::Outside(_) => refused_proposals += 1,
+                Played::Outside(why) => {
+                    refused_proposals += 1;
+                    tally.count_outside(call, why);
+                }
                 Played::Mismatch(difference) => {
                     history.push(call);
                     return Err(Mismatch { history, difference });

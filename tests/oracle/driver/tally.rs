@@ -1,7 +1,7 @@
 //! What a run has reached: counted per call and kind of answer, and per order.
 
 use crate::call::Call;
-use crate::domain::MAX_ORDER;
+use crate::domain::{Outside, MAX_ORDER};
 use crate::kind::Kind;
 
 const ORDERS: usize = MAX_ORDER as usize + 1;
@@ -33,6 +33,13 @@ impl Tally {
             Call::Allocate { order, .. } => self.allocations_per_order[order as usize] += 1,
             Call::Reserve { order, .. } => self.reserves_per_order[order as usize] += 1,
             Call::Free { .. } => {}
+        }
+    }
+
+    /// Of the calls that leave the domain those for the last bytes are compared too: there it is known what each side does.
+    pub fn count_outside(&mut self, call: Call, why: Outside) {
+        if let Outside::TakesTheLastBytes { kind, .. } = why {
+            self.count(call, kind, false);
         }
     }
 

@@ -1,5 +1,6 @@
 //! The crate in the place of the module: calling_code.rs over both, on the same random histories inside document 01's
-//! domain. Acceptances and addresses must be equal. Refusal numbers follow the Rust's drifted `free_size` and are
+//! domain. Acceptances and addresses must be equal, but for a take of the last bytes, which the module refuses and the
+//! crate accepts: there a history leaves the domain and ends. Refusal numbers follow the Rust's drifted `free_size` and are
 //! compared in tests/oracle, by a copy that counts rightly; here the crate's are held to the oracle's model.
 
 #![allow(dead_code)] // of the oracle's files a part is used
@@ -35,7 +36,7 @@ mod with_the_crate {
 }
 
 use call::{Answer, Call};
-use domain::Model;
+use domain::{Model, Outside};
 use generate::Generator;
 use kind::Kind;
 use profile::PROFILES;
@@ -70,6 +71,12 @@ fn play_history(number: u64, seen: &mut Vec<Kind>) {
         let call = generator.propose(&model);
         let step = match model.step(call) {
             Ok(step) => step,
+            Err(Outside::TakesTheLastBytes { kind, address }) => {
+                history.push(call);
+                part(&history, call, Answer::Accepted(address));
+                note(kind, seen);
+                return;
+            }
             Err(_) => {
                 outside += 1;
                 continue;
@@ -84,9 +91,13 @@ fn play_history(number: u64, seen: &mut Vec<Kind>) {
         compare(&history, call, step.answer());
         model.apply(call, &step);
         generator.accepted(call, step.answer());
-        if !seen.contains(&step.kind) {
-            seen.push(step.kind);
-        }
+        note(step.kind, seen);
+    }
+}
+
+fn note(kind: Kind, seen: &mut Vec<Kind>) {
+    if !seen.contains(&kind) {
+        seen.push(kind);
     }
 }
 
@@ -107,6 +118,13 @@ fn compare(history: &[Call], call: Call, foreseen: Answer) {
         lines(history)
     );
     assert_eq!(ours, foreseen, "the crate's answer, and the model's, to the last of\n{}", lines(history));
+}
+
+fn part(history: &[Call], call: Call, foreseen: Answer) {
+    let (module, ours) = (the_module::play(call), the_crate::play(call));
+    let module_refuses = matches!(module, Answer::Refused(_));
+    assert!(module_refuses, "the module answers {module:?} to the last bytes:\n{}", lines(history));
+    assert_eq!(ours, foreseen, "the crate's answer, and the model's, to the last bytes:\n{}", lines(history));
 }
 
 fn lines(history: &[Call]) -> String {
