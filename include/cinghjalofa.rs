@@ -29,7 +29,7 @@ pub const PAGE_BYTES: u64 = 4096;
 /// How many pages the addresses have.
 pub const MOST_PAGES: u64 = 1 << 51;
 
-/// A record is needed and none is unused, or the only range would go whole.
+/// A record is needed and none is unused.
 pub const NO_ENTRY: i64 = -1;
 /// The slice is no image of a sound allocator.
 pub const INVALID_ENTRY: i64 = -2;
