@@ -150,6 +150,31 @@ emptied =
     (at# 0 65536 69631 ∷ []) (at# 0 65536 69631 ∷ [])
     ∷ []
 
+-- ---- the search goes on where a record is wanted and all are used
+
+unfoldable pub lookedOn : List Trial
+lookedOn =
+    -- the first range that fits would be split: a later one serves, in a later list or, older, in the same
+    trial 2 (f 1024 4096 ∷ f 65536 8192 ∷ a 512 12 ∷ []) (ok ∷ ok ∷ at 65536 ∷ []) (at# 0 1024 5119 ∷ at# 1 66048 73727 ∷ []) (at# 0 1024 5119 ∷ at# 1 66048 73727 ∷ [])
+    ∷ trial 2 (f 65536 4096 ∷ f 1024 4096 ∷ a 512 12 ∷ []) (ok ∷ ok ∷ at 65536 ∷ []) (at# 1 1024 5119 ∷ at# 0 66048 69631 ∷ []) (at# 0 66048 69631 ∷ at# 1 1024 5119 ∷ [])
+    -- past two that would be split; a tail serves as a front does
+    ∷ trial 3 (f 1024 4096 ∷ f 9216 4096 ∷ f 65536 8192 ∷ a 512 12 ∷ []) (ok ∷ ok ∷ ok ∷ at 65536 ∷ [])
+    (at# 0 1024 5119 ∷ at# 1 9216 13311 ∷ at# 2 66048 73727 ∷ []) (at# 1 9216 13311 ∷ at# 0 1024 5119 ∷ at# 2 66048 73727 ∷ [])
+    ∷ trial 2 (f 3 4 ∷ f 17 5 ∷ a 2 2 ∷ []) (ok ∷ ok ∷ at 20 ∷ []) (at# 0 3 6 ∷ at# 1 17 19 ∷ []) (at# 1 17 19 ∷ at# 0 3 6 ∷ [])
+    -- while a record is unused the first that fits is taken, split or not
+    ∷ trial 3 (f 1024 4096 ∷ f 65536 8192 ∷ a 512 12 ∷ []) (ok ∷ ok ∷ at 4096 ∷ [])
+    (at# 0 1024 4095 ∷ at# 2 4608 5119 ∷ at# 1 65536 73727 ∷ []) (at# 2 4608 5119 ∷ at# 0 1024 4095 ∷ at# 1 65536 73727 ∷ [])
+    -- the first that serves is taken, whatever comes after it
+    ∷ trial 3 (f 1024 4096 ∷ f 65536 8192 ∷ f 131072 16384 ∷ a 512 12 ∷ []) (ok ∷ ok ∷ ok ∷ at 65536 ∷ [])
+    (at# 0 1024 5119 ∷ at# 1 66048 73727 ∷ at# 2 131072 147455 ∷ []) (at# 0 1024 5119 ∷ at# 1 66048 73727 ∷ at# 2 131072 147455 ∷ [])
+    -- some range fits and none can be served; none fits; an exact tail and a front use no record
+    ∷ trial 2 (f 1024 4096 ∷ f 9216 4096 ∷ a 512 12 ∷ []) (ok ∷ ok ∷ nay 1 ∷ []) (at# 0 1024 5119 ∷ at# 1 9216 13311 ∷ []) (at# 1 9216 13311 ∷ at# 0 1024 5119 ∷ [])
+    ∷ trial 1 (f 1024 4096 ∷ a 512 12 ∷ a 1025 12 ∷ a 1024 12 ∷ []) (ok ∷ nay 1 ∷ nay 3 ∷ at 4096 ∷ []) (at# 0 1024 4095 ∷ []) (at# 0 1024 4095 ∷ [])
+    ∷ trial 1 (f 1024 4096 ∷ a 512 0 ∷ []) (ok ∷ at 1024 ∷ []) (at# 0 1536 5119 ∷ []) (at# 0 1536 5119 ∷ [])
+    -- a reserve names its range, and is refused as before
+    ∷ trial 2 (f 1024 4096 ∷ f 65536 8192 ∷ r 4096 512 0 ∷ []) (ok ∷ ok ∷ nay 1 ∷ []) (at# 0 1024 5119 ∷ at# 1 65536 73727 ∷ []) (at# 0 1024 5119 ∷ at# 1 65536 73727 ∷ [])
+    ∷ []
+
 -- ---- bytes and vouchers
 
 -- a history over few bytes, one call of each kind refused
