@@ -76,7 +76,9 @@ module _ (n z o : ℕ) (b : Book) where
 
   -- then the first that wants none is taken, by a second search; it answers 3 where there is none
   abbrev second : Option Range → Type 0
-  second m = (firstFrom n z o b m .number ≡ 3 → (firstFrom n z o b m ≡ refused 3 b) × (allocateFrom n z o b m ≡ refused 1 b)) × (firstFrom n z o b m .number ≢ 3 → allocateFrom n z o b m ≡ firstFrom n z o b m)
+  second m =
+      (firstFrom n z o b m .number ≡ 3 → (firstFrom n z o b m ≡ refused 3 b) × (allocateFrom n z o b m ≡ refused 1 b))
+      × (firstFrom n z o b m .number ≢ 3 → allocateFrom n z o b m ≡ firstFrom n z o b m)
 
   plain-from : (m : Option Range) → Found (λ r. serves false (fit z o r)) (b .shelf) m → second m
   unfolding firstFrom allocateFrom refuse

@@ -104,7 +104,8 @@ module _ (P : ℕ → Type 0) (zeroed : P 0) where
   refuse-address q k b w h = if q (λ (v : Answer). P (v .address)) (λ _. zeroed) (λ _. h)
 
   -- the address of a take: 0 where it is refused, else the start of a free range, rounded up
-  allocated-address : (n z o : ℕ) (b : Book) (m : Option Range) → Found (λ r. serves (not (full n b)) (fit z o r)) (b .shelf) m → ((r : Range) → In r (b .shelf) → P (up o (r .start))) → P (allocateFrom n z o b m .address)
+  allocated-address : (n z o : ℕ) (b : Book) (m : Option Range) → Found (λ r. serves (not (full n b)) (fit z o r)) (b .shelf) m
+      → ((r : Range) → In r (b .shelf) → P (up o (r .start))) → P (allocateFrom n z o b m .address)
   unfolding allocateFrom
   allocated-address n z o b none f h = zeroed
   allocated-address n z o b (some r) f h = h r (f .0)

@@ -36,14 +36,16 @@ has-room n b q t h = nleb→lt n (unused n b) (not-and q (full n b) t h)
 -- a range that can be served has the bytes, and a record is unused if they split it
 pub served : (spare : Bool) (z o : ℕ) (r : Range) → T (serves spare (fit z o r))
     → (up o (r .start) + z ≤ suc (r .last)) × (T (splits (up o (r .start)) (up o (r .start) + z) r) → T spare)
-served spare z o r h = let g = go (leb (up o (r .start) + z) (suc (r .last))) (splits (up o (r .start)) (up o (r .start) + z) r) h in (leb→le (up o (r .start) + z) (suc (r .last)) (g .0), g .1)
+served spare z o r h =
+    let g = go (leb (up o (r .start) + z) (suc (r .last))) (splits (up o (r .start)) (up o (r .start) + z) r) h in (leb→le (up o (r .start) + z) (suc (r .last)) (g .0), g .1)
   where
     go : (q s : Bool) → T (serves spare (cond q (cond s Splits Plain) Short)) → T q × (T s → T spare)
     go true true h = (tt, λ _. h)
     go true false h = (tt, λ x. absurd x)
     go false s h = absurd h
 
-allocated : (n : ℕ) (b : Book) (z o : ℕ) → Sound n b → z ≢ 0 → (m : Option Range) → Found (λ r. serves (not (full n b)) (fit z o r)) (b .shelf) m → Outcome n b (Allocate z o) (allocateFrom n z o b m)
+allocated : (n : ℕ) (b : Book) (z o : ℕ) → Sound n b → z ≢ 0 → (m : Option Range) → Found (λ r. serves (not (full n b)) (fit z o r)) (b .shelf) m
+    → Outcome n b (Allocate z o) (allocateFrom n z o b m)
 unfolding allocateFrom
 allocated n b z o s h none f = refusal 1 (omega arith) (omega arith)
 allocated n b z o s h (some r) f =

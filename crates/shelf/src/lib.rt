@@ -137,13 +137,7 @@ pub fn resize(
 }
 
 // The fit test of record i: `size` bytes from its start rounded up.
-pub fn fit_at(
-    start: &[u64; POOL],
-    end: &[u64; POOL],
-    i: RecordIndex,
-    size: u64,
-    order: u64,
-) -> Fit
+pub fn fit_at(start: &[u64; POOL], end: &[u64; POOL], i: RecordIndex, size: u64, order: u64) -> Fit
     requires { ⌜ Good pool (at (now start) (now end) (i .0)) ⌝ }
     requires { ⌜ (0 < size) × (order ≤ 63) ⌝ }
     ensures { λ k. ⌜ meant k ≡ fit size order (at (was start) (was end) (i .0)) ⌝ }

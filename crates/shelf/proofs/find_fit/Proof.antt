@@ -33,7 +33,8 @@ abbrev μ-loop : tie.MeasureT-loop
 
 abbrev Inv-search : tie.InvT-search
 Inv-search start end next heads spare size order hit₀ k₀ hit k =
-    (k ≤ sizeLists) × (hit ≡ Nothing) × ((l : List Range) (prev : List ℕ) → Shelved pool l start end prev next heads → find (serving spare size order) l ≡ find (serving spare size order) (lists k (sizeLists - k) l))
+    (k ≤ sizeLists) × (hit ≡ Nothing) × ((l : List Range) (prev : List ℕ) → Shelved pool l start end prev next heads
+    → find (serving spare size order) l ≡ find (serving spare size order) (lists k (sizeLists - k) l))
 
 abbrev μ-search : tie.MeasureT-search
 μ-search start end next heads spare size order hit₀ k₀ hit k = sizeLists - k
@@ -74,7 +75,8 @@ loop-holds c = (
 -- in a turn, the walk stands at a range of the list
 turn : (c : tie.Then1 Inv-loop μ-loop Inv-search μ-search)
     → let x = c .before .before .before .before .before .before .before .before .args in let s = c .before .before .before .before .before .search in let w = c .before .before .loop in
-    (l : List Range) (prev : List ℕ) (t : Shelved pool l (x .start .now) (x .end .now) prev (x .next .now) (x .heads .now)) → (b : ℕ) × Stands pool (lit≤ tt) (mark (serving (x .spare) (x .size) (x .order)))
+    (l : List Range) (prev : List ℕ) (t : Shelved pool l (x .start .now) (x .end .now) prev (x .next .now) (x .heads .now))
+    → (b : ℕ) × Stands pool (lit≤ tt) (mark (serving (x .spare) (x .size) (x .order)))
     (ofList (s .k) l) _ _ _ (runs pool l _ _ prev _ _ t (s .k)) 1 b (w .cur .0)
 turn c l prev t =
     let at-search = c .before .before .before .before .before in
@@ -97,9 +99,12 @@ can-be-served-requires c κs = search needs
 
 -- whether the range where the walk stands can be served
 told : (c : tie.After-can-be-served Inv-loop μ-loop Inv-search μ-search)
-    → let x = c .before .before .before .before .before .before .before .before .before .before .args in let w = c .before .before .before .before .loop in
-    serving (x .spare) (x .size) (x .order) (at (x .start .now) (x .end .now) (w .cur .0)) ≡ c .can-be-served .result
-told c = let x = c .before .before .before .before .before .before .before .before .before .before .args in ap (serves (x .spare)) (sym (c .before .fit-at .ensures)) ∙ sym (c .can-be-served .ensures)
+    → let w = c .before .before .before .before in let x = w .before .before .before .before .before .before .args in
+    serving (x .spare) (x .size) (x .order) (at (x .start .now) (x .end .now) (w .loop .cur .0)) ≡ c .can-be-served .result
+told c =
+    let w = c .before .before .before .before in
+    let x = w .before .before .before .before .before .before .args in
+    ap (serves (x .spare)) (sym (c .before .fit-at .ensures)) ∙ sym (c .can-be-served .ensures)
 
 link-of-requires : tie.Need-link-of-requires Inv-loop μ-loop Inv-search μ-search
 link-of-requires c κs = good-here (c .before .before .before) .known

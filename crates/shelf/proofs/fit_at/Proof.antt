@@ -17,7 +17,8 @@ remains : (c : tie.After-align-address-and-available-size) → let x = at-start 
     c .align-address-and-available-size .result .size ≡ r .start + size r - up (x .order) (r .start)
 remains c =
     let x = at-start c .args in
-    c .align-address-and-available-size .ensures .1 ∙ ap (λ (w : ℕ). getD (x .start .now) (x .i .0) 0 + w - up (x .order) (getD (x .start .now) (x .i .0) 0)) (c .before .before .before .get-size .ensures)
+    let s = getD (x .start .now) (x .i .0) 0 in
+    c .align-address-and-available-size .ensures .1 ∙ ap (λ (w : ℕ). s + w - up (x .order) s) (c .before .before .before .get-size .ensures)
 
 get-size-requires : tie.Need-get-size-requires
 get-size-requires c κs = search needs
