@@ -36,10 +36,12 @@ impl Tally {
         }
     }
 
-    /// Of the calls that leave the domain those for the last bytes are compared too: there it is known what each side does.
+    /// Of the calls that leave the domain those that document 02 lets through are compared too: there it is known what each side does.
     pub fn count_outside(&mut self, call: Call, why: Outside) {
-        if let Outside::TakesTheLastBytes { kind, .. } = why {
-            self.count(call, kind, false);
+        match why {
+            Outside::TakesTheLastBytes { kind, .. } => self.count(call, kind, false),
+            Outside::LooksOn { .. } => self.count(call, Kind::AllocateFurtherOn, false),
+            _ => {}
         }
     }
 
