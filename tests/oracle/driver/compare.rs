@@ -58,7 +58,7 @@ impl Players {
         match (why, call) {
             (Outside::TakesTheLastBytes { address, .. }, Call::Allocate { .. }) => self.empties(call, 3, address),
             (Outside::TakesTheLastBytes { address, .. }, _) => self.empties(call, 1, address),
-            (Outside::LooksOn { address }, Call::Allocate { size, .. }) => self.looks_on(call, address, size),
+            (Outside::LooksOn { address, .. }, Call::Allocate { size, .. }) => self.looks_on(call, address, size),
             _ => Ok(()),
         }
     }

@@ -44,6 +44,7 @@ pub enum Outside {
     /// All records are used and the first range that fits would be split. Document 02's T-06 takes the bytes from `address` on, out
     /// of the first that would not; the Rust refuses.
     LooksOn {
+        kind: Kind,
         address: u64,
     },
 }
@@ -180,7 +181,7 @@ impl Model {
             None => Ok(step),
             Some((.., at, address)) => {
                 self.take(at, address, address + size - 1, kinds, Kind::AllocateWithoutRecord)?;
-                Err(Outside::LooksOn { address })
+                Err(Outside::LooksOn { kind: Kind::AllocateFurtherOn, address })
             }
         }
     }

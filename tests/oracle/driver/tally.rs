@@ -38,10 +38,8 @@ impl Tally {
 
     /// Of the calls that leave the domain those that document 02 lets through are compared too: there it is known what each side does.
     pub fn count_outside(&mut self, call: Call, why: Outside) {
-        match why {
-            Outside::TakesTheLastBytes { kind, .. } => self.count(call, kind, false),
-            Outside::LooksOn { .. } => self.count(call, Kind::AllocateFurtherOn, false),
-            _ => {}
+        if let Outside::TakesTheLastBytes { kind, .. } | Outside::LooksOn { kind, .. } = why {
+            self.count(call, kind, false);
         }
     }
 
