@@ -124,7 +124,7 @@ fn part(history: &[Call], call: Call, foreseen: Answer) {
     let (module, ours) = (the_module::play(call), the_crate::play(call));
     let module_refuses = matches!(module, Answer::Refused(_));
     assert!(module_refuses, "the module answers {module:?} to the last of\n{}", lines(history));
-    assert_eq!(ours, foreseen, "the crate's answer, and the model's, where the two part, at the last of\n{}", lines(history));
+    assert_eq!(ours, foreseen, "the crate's answer, and the model's, to the last of\n{}", lines(history));
 }
 
 fn lines(history: &[Call]) -> String {
