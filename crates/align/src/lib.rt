@@ -83,11 +83,3 @@ pub fn align_address_and_available_size(start: Address, size: u64, order: u64) -
         size: past - from,
     }
 }
-
-// The last byte of a piece.
-pub fn get_end_address(start: Address, size: u64) -> Address
-    requires { ⌜ (start .0 + size ≤ top) × (0 < size) ⌝ }
-    ensures { λ r. ⌜ r .0 ≡ start .0 + size - 1 ⌝ }
-{
-    Address(start.0 + (size - 1))
-}

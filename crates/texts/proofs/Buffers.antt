@@ -3,12 +3,11 @@
 use mathlib.Core.Path.{_≡_, refl, sym, _∙_, ap}
 use borrow.Rule.Slice.PartMut.{putMid}
 use mathlib.Core.Bool.{Bool, true, false, not}
-use mathlib.Core.List.{List, [], _∷_, _++_, append-assoc}
+use mathlib.Core.List.{List, [], _∷_, _++_, append-assoc, append-nil}
 use Prim.Native.Nat.{ℕ, _+_, _-_, _^_, _≤_, _<_}
-use native.Mathlib.Numerals.{add-one}
 use native.Mathlib.Omega.{arith}
-use lib.ListN.{length, take, drop, set, getD, length-append, length-take, length-drop}
-use lib.Seq.{paste, paste-suc, take-length, take-at, drop-at, drop-drop}
+use lib.ListN.{length, take, drop, length-append, length-take, length-drop}
+use lib.Seq.{take-length, drop-length, take-at, drop-at, drop-drop}
 use lib.Dec.{leb}
 use borrow.Author.Tests.{le-leb, lt-leb, leb-true, leb-false, not-true, not-false}
 use Rattle.texts.specs.Answers.{digitsOf, ending, okText, badText, okAt, noText, rangeText, listText, written, past, Puts}
@@ -53,12 +52,13 @@ put-part t l y at w size h e =
     let after : drop (at + w - at) (drop at l) ≡ drop (at + length t) l = drop-drop (at + w - at) at l ∙ ap (λ (n : ℕ). drop n l) k in
     put-all t l at (putMid at (at + w - at) l y) (at + w) h (rw (after, e)) (ap (λ (n : ℕ). at + n) size)
 
--- a byte more of a text that is copied, and the text when all of it is
-pub paste-next : (l m t : List ℕ) (at i : ℕ) → at + length t ≤ length l → i < length t → m ≡ paste l at t i → set m (at + i) (getD t i 0) ≡ paste l at t (i + 1)
-paste-next l m t at i h g e = rw (e, add-one i) (paste-suc l at t i 0 (omega arith) g)
-
-pub put-pasted : (t l m : List ℕ) (at i : ℕ) → at + length t ≤ length l → i ≡ length t → m ≡ paste l at t i → Puts t l at m (at + i)
-put-pasted t l m at i h g e = put-all t l at m (at + i) h (e ∙ rw (g, take-length t) (append-assoc (take at l) t (drop (at + length t) l))) (ap (λ (n : ℕ). at + n) g)
+-- a text that is copied over a part as long as it
+pub copied : (t l : List ℕ) (at : ℕ) → at + length t ≤ length l → take (length t) t ++ drop (length t) (take (at + length t - at) (drop at l)) ≡ t
+copied t l at h =
+    let part : List ℕ = take (at + length t - at) (drop at l) in
+    let n : length part ≡ length t = simp (length-take, length-drop) (omega arith) in
+    let over : drop (length t) part ≡ [] = ap (λ (k : ℕ). drop k part) (sym n) ∙ drop-length part in
+    rw (take-length t, over) (append-nil t)
 
 pub put-then : (s t l m k : List ℕ) (at a b : ℕ) → at + length (s ++ t) ≤ length l → Puts s l at m a → Puts t m a k b → Puts (s ++ t) l at k b
 put-then s t l m k at a b h p q =

@@ -1,4 +1,5 @@
 // The text of an answer, written whole or, where it does not fit, not at all.
+use bytes::copy;
 ghost use mathlib.Core.Path.{_≡_};
 ghost use mathlib.Core.List.{_++_};
 ghost use Prim.Native.Nat.{_+_, _≤_};
@@ -49,12 +50,9 @@ pub fn put_bytes(out: &mut [u8], at: usize, text: &[u8]) -> usize
     if !has_room(out.len(), at, text.len()) {
         return at;
     }
-    let mut i = 0;
-    while i < text.len() {
-        out[at + i] = text[i];
-        i += 1;
-    }
-    at + i
+    let end = at + text.len();
+    copy(text, &mut out[at..end]);
+    end
 }
 
 pub fn put_number(out: &mut [u8], at: usize, n: u64) -> usize
