@@ -25,6 +25,7 @@ ghost use Rattle.shelf.specs.Shelf.{Removes, Places, Resizes, Removed, P
 ghost use Rattle.links.specs.Hits.{hitOf};
 
 // The number of bytes of record i.
+// In MiniVisor: get_size.
 pub fn get_size(start: &[u64; POOL], end: &[u64; POOL], i: RecordIndex) -> u64
     requires { ⌜ Good pool (at (now start) (now end) (i .0)) ⌝ }
     ensures { λ r. ⌜ r ≡ size (at (was start) (was end) (i .0)) ⌝ }
@@ -64,6 +65,7 @@ pub fn find_gap(
 }
 
 // Record i goes out of the shelf.
+// In MiniVisor: unchain_entry_from_free_list.
 pub fn unchain_entry_from_free_list(
     start: &[u64; POOL],
     end: &[u64; POOL],
@@ -84,6 +86,7 @@ pub fn unchain_entry_from_free_list(
 }
 
 // Record i goes into the shelf: in the list of its size, before the first of at least its size.
+// In MiniVisor: chain_entry_to_free_list.
 pub fn chain_entry_to_free_list(
     start: &[u64; POOL],
     end: &[u64; POOL],
@@ -107,6 +110,7 @@ pub fn chain_entry_to_free_list(
 }
 
 // Record i, which is on the shelf, gets another range, and its place by size.
+// In MiniVisor: set_range.
 pub fn resize(
     start: &mut [u64; POOL],
     end: &mut [u64; POOL],
