@@ -9,6 +9,7 @@ usage: run.py [--archive FILE] MODE [OPTIONS]
   play < CALLS                                  one history from standard input
   differences [--markdown yes]                  the table of differences, on both sides
   broken                                        ports broken on purpose must be noticed
+  counterparts                                  the functions of the port that name those of the module
   make-stored                                   writes stored/ anew from the original
   check-stored                                  stored/ must be what the original says today
   all                                           everything but play and make-stored, with the usual bounds
@@ -28,15 +29,17 @@ HERE = Path(__file__).resolve().parent
 sys.path.insert(0, str(HERE.parent))
 
 import build
+import counterparts
 import original
 from machine import Failed, machines
 
 STORED = HERE / "stored"
 TABLE = HERE / "differences.txt"
 LIVE_MODES = ("exhaustive", "random", "play", "differences", "broken")
-OTHER_MODES = ("replay", "make-stored", "check-stored", "all")
+OTHER_MODES = ("replay", "counterparts", "make-stored", "check-stored", "all")
 USUAL_BOUNDS = (
     ("replay", []),
+    ("counterparts", []),
     ("check-stored", []),
     ("differences", []),
     ("exhaustive", []),
@@ -99,6 +102,8 @@ def run(machine, mode, options, module):
         return live(machine, mode, options, module)
     if mode == "replay":
         return replay(machine)
+    if mode == "counterparts":
+        return counterparts.held(module)
     if mode == "make-stored":
         return store(machine, STORED, module)
     return check_stored(machine, module)

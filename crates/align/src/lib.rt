@@ -15,6 +15,7 @@ const LAST_LIST: u32 = LISTS as u32 - 1;
 
 // The list number of a size: the least k from 0 with size <= 4096 * 2^k, but never above the last list. Where the size is more
 // than a page, the size less one has k leading zeros fewer than 4095.
+// In MiniVisor: size_to_page_order.
 pub fn size_to_page_order(size: u64) -> ListIndex
     ensures { λ r. ⌜ r .0 ≡ listNumber size ⌝ }
     ensures { λ r. ⌜ r .0 < sizeLists ⌝ }
@@ -53,6 +54,7 @@ pub struct Aligned {
 }
 
 // A piece, widened at both ends to multiples of 2^order.
+// In MiniVisor: align_address_and_size.
 pub fn align_address_and_size(start: Address, size: u64, order: u64) -> Aligned
     requires { ⌜ (start .0 + size ≤ top) × (order ≤ 63) ⌝ }
     ensures { λ r. ⌜ (r .start .0 ≡ down order (start .0)) × (r .size ≡ up order (start .0 + size) - down order (start .0)) ⌝ }
@@ -66,6 +68,7 @@ pub fn align_address_and_size(start: Address, size: u64, order: u64) -> Aligned
 }
 
 // What remains of a piece from its start rounded up; nothing where that passes its end.
+// In MiniVisor: align_address_and_available_size.
 pub fn align_address_and_available_size(start: Address, size: u64, order: u64) -> Aligned
     requires { ⌜ (start .0 + size ≤ top) × (order ≤ 63) ⌝ }
     ensures { λ r. ⌜ (r .start .0 ≡ up order (start .0)) × (r .size ≡ (start .0 + size) - up order (start .0)) ⌝ }

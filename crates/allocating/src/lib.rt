@@ -128,6 +128,7 @@ fn allocate_fit(
 }
 
 // Document 01's lines for an allocation, one after the other; what passes them is served.
+// In MiniVisor: allocate.
 pub fn allocate_in(
     total: &mut u64,
     first: &mut u16,

@@ -50,6 +50,7 @@ pub fn enchain(
 }
 
 // The place of an address in the chain: after the last range that starts below it.
+// In MiniVisor: search_entry_previous_address_mut.
 pub fn search_entry_previous_address(
     start: &[u64; POOL],
     next: &[u16; POOL],
@@ -79,6 +80,7 @@ pub fn search_entry_previous_address(
 }
 
 // The range that holds the bytes from `address` to before `past`.
+// In MiniVisor: search_entry_containing_address_mut.
 pub fn search_entry_containing_address(
     start: &[u64; POOL],
     end: &[u64; POOL],

@@ -26,6 +26,7 @@ pub enum Moving {
 }
 
 // The lowest unused record.
+// In MiniVisor: create_memory_entry.
 pub fn create_memory_entry(enabled: &[bool; POOL]) -> Slot
     requires { ⌜ ((c : List Range) × Marked pool c (now enabled)) ⌝ }
     ensures { λ r. ⌜ ((c : List Range) → Marked pool c (was enabled) → r ≡ slotOf pool (lowest pool 0 c)) ⌝ }
@@ -41,6 +42,7 @@ pub fn create_memory_entry(enabled: &[bool; POOL]) -> Slot
 }
 
 // Record i goes out of use.
+// In MiniVisor: delete.
 pub fn delete_entry(
     first: &mut u16,
     heads: &mut [u16; LISTS],

@@ -65,6 +65,7 @@ fn free_piece(
 }
 
 // Document 01's lines for a free, one after the other; what passes them is served.
+// In MiniVisor: free.
 pub fn free_in(
     total: &mut u64,
     first: &mut u16,

@@ -44,6 +44,7 @@ pub fn starts_at(start: &[u64; POOL], i: RecordIndex, address: Address) -> bool
 }
 
 // The bytes from a to before t, between the records x and y of the chain, become free, and are joined with the ranges that they touch.
+// In MiniVisor: define_free_memory.
 pub fn define_free_memory(
     total: &mut u64,
     first: &mut u16,

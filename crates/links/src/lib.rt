@@ -25,6 +25,7 @@ pub enum Hit {
 }
 
 // The link of record i is set, where there is such a record.
+// In MiniVisor: set_prev_entry, set_next_entry, unset_prev_entry, unset_next_entry.
 pub fn point(links: &mut [u16; POOL], i: RecordIndex, to: RecordIndex)
     ensures { λ _. ⌜ (Sets pool (was links) (i .0) (to .0) (is links)) ⌝ }
 {
@@ -35,6 +36,7 @@ pub fn point(links: &mut [u16; POOL], i: RecordIndex, to: RecordIndex)
 }
 
 // The link of record i.
+// In MiniVisor: get_prev_entry, get_next_entry.
 pub fn link_of(links: &[u16; POOL], i: RecordIndex) -> RecordIndex
     requires { ⌜ i .0 < pool ⌝ }
     ensures { λ r. ⌜ r .0 ≡ getD (was links) (i .0) 0 ⌝ }
@@ -44,6 +46,7 @@ pub fn link_of(links: &[u16; POOL], i: RecordIndex) -> RecordIndex
 }
 
 // Record i goes out of its list.
+// In MiniVisor: unchain_from_freelist.
 pub fn unlink(prev: &mut [u16; POOL], next: &mut [u16; POOL], i: RecordIndex)
     requires { ⌜ i .0 < pool ⌝ }
     ensures { λ _. ⌜ Unlinked pool (i .0) prev next ⌝ }
@@ -57,6 +60,7 @@ pub fn unlink(prev: &mut [u16; POOL], next: &mut [u16; POOL], i: RecordIndex)
 }
 
 // Record i goes into its list between two neighbours.
+// In MiniVisor: chain_after_me.
 pub fn link_between(
     prev: &mut [u16; POOL],
     next: &mut [u16; POOL],

@@ -63,6 +63,7 @@ fn reserve_piece(
 }
 
 // Document 01's lines for a reservation, one after the other; what passes them is widened to multiples of 2^order, and served.
+// In MiniVisor: reserve_memory.
 pub fn reserve_in(
     total: &mut u64,
     first: &mut u16,

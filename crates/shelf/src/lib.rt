@@ -33,6 +33,7 @@ pub enum Fit {
 }
 
 // The number of bytes of record i.
+// In MiniVisor: get_size.
 pub fn get_size(start: &[u64; POOL], end: &[u64; POOL], i: RecordIndex) -> u64
     requires { ⌜ Good pool (at (now start) (now end) (i .0)) ⌝ }
     ensures { λ r. ⌜ r ≡ size (at (was start) (was end) (i .0)) ⌝ }
@@ -72,6 +73,7 @@ pub fn find_gap(
 }
 
 // Record i goes out of the shelf.
+// In MiniVisor: unchain_entry_from_free_list.
 pub fn unchain_entry_from_free_list(
     start: &[u64; POOL],
     end: &[u64; POOL],
@@ -92,6 +94,7 @@ pub fn unchain_entry_from_free_list(
 }
 
 // Record i goes into the shelf: in the list of its size, before the first of at least its size.
+// In MiniVisor: chain_entry_to_free_list.
 pub fn chain_entry_to_free_list(
     start: &[u64; POOL],
     end: &[u64; POOL],
@@ -115,6 +118,7 @@ pub fn chain_entry_to_free_list(
 }
 
 // Record i, which is on the shelf, gets another range, and its place by size.
+// In MiniVisor: set_range.
 pub fn resize(
     start: &mut [u64; POOL],
     end: &mut [u64; POOL],

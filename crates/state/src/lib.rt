@@ -38,6 +38,7 @@ pub struct MemoryAllocator {
 }
 
 // The empty allocator.
+// In MiniVisor: new.
 pub fn new() -> MemoryAllocator
     ensures { λ r. ⌜ r ≡ stateOf pool empty ⌝ }
 {

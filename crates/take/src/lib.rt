@@ -14,6 +14,7 @@ ghost use Rattle.state.specs.Shown.{pool};
 ghost use Rattle.take.specs.Take.{AsksSome, Taken};
 
 // The bytes from a to before t are taken out of the range in record i; in place.
+// In MiniVisor: define_used_memory.
 pub fn define_used_memory(
     total: &mut u64,
     first: &mut u16,

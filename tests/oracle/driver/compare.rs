@@ -67,7 +67,7 @@ impl Players {
     fn empties(&self, call: Call, habit: u8, address: u64) -> Result<(), String> {
         self.bench.refuses_by_habit(call, habit)?;
         if self.accepting(call, address)?.image != Port::new().image {
-            return Err("the port is empty, and its image is not that of a new one".to_string());
+            return Err("the last bytes are out, and the image of the port is not that of a new one".to_string());
         }
         Ok(())
     }
@@ -78,8 +78,11 @@ impl Players {
         self.bench.refuses_by_habit(call, 1)?;
         let shape = self.accepting(call, address)?.shape()?;
         let due = self.bench.shape_after(Call::Reserve { start: address, size, order: 0 })?;
-        if !shape.same_links(&due) || shape.total != due.total {
+        if !shape.same_links(&due) {
             return Err(shape.describe_difference("the port", &due, "the counting copy after a reserve"));
+        }
+        if shape.total != due.total {
+            return Err(format!("total: the port {}, the counting copy after a reserve {}", shape.total, due.total));
         }
         Ok(())
     }
@@ -88,6 +91,9 @@ impl Players {
     fn accepting(&self, call: Call, address: u64) -> Result<Port, String> {
         let mut port = self.port.clone();
         let answer = port.play(call);
+        if let (Some(breakage), true) = (self.breakage, answer.is_accepted()) {
+            breakage.spoil(&self.port, call, &mut port);
+        }
         if answer != Answer::Accepted(address) {
             let (answer, due) = (answer.printed_for(&call), Answer::Accepted(address).printed_for(&call));
             return Err(format!("answer: the port `{answer}`, due is `{due}`"));
