@@ -2,9 +2,9 @@
 from ledger import APART, ok
 from program import Case, lines
 
-# from one free range, 65536 to 131071, back to it
-ROUND = ["a 4096 0", "f 65536 4096", "r 70000 100 12", "f 69632 4096", "a 65536 0", "f 131071 2", "bad", "l"]
-ROUND_ANSWERS = ["ok 65536", "ok", "ok", "ok", "no 3", "no 4", "bad", "list 1 65536", "65536 131071"]
+# from one free range, 65536 to 131071, back to it, by way of none
+ROUND = ["a 4096 0", "f 65536 4096", "a 65537 0", "r 70000 100 16", "f 65536 65536", "f 131071 2", "bad", "l"]
+ROUND_ANSWERS = ["ok 65536", "ok", "no 3", "ok", "ok", "no 4", "bad", "list 1 65536", "65536 131071"]
 
 ROUNDS = 125000
 MOST_SECONDS = 60

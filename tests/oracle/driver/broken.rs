@@ -13,15 +13,17 @@ pub enum Breakage {
     HighestUnusedRecord,
     UpperNumberKept,
     DriftedTotal,
+    LastBytesKept,
 }
 
 impl Breakage {
-    pub const ALL: [(Breakage, &'static str); 5] = [
+    pub const ALL: [(Breakage, &'static str); 6] = [
         (Breakage::PlacedAfterEquals, "a range is placed after its equals"),
         (Breakage::HighPiecePlacedFirst, "the high piece of a split is placed before the low one"),
         (Breakage::HighestUnusedRecord, "a new record is the highest unused one"),
         (Breakage::UpperNumberKept, "joined with both neighbours, the upper number stays"),
         (Breakage::DriftedTotal, "a free into a state that is not empty adds its size twice"),
+        (Breakage::LastBytesKept, "a take of the last bytes is accepted and leaves them free"),
     ];
 
     pub fn spoil(self, before: &Port, call: Call, port: &mut Port) {
@@ -32,6 +34,7 @@ impl Breakage {
                 Breakage::HighestUnusedRecord => use_highest_record(&before, &mut shape),
                 Breakage::UpperNumberKept => keep_upper_number(&before, &mut shape),
                 Breakage::DriftedTotal => add_twice(&before, call, &mut shape),
+                Breakage::LastBytesKept => keep_last_bytes(&before, &mut shape),
             }
             port.image = image::write(&shape);
         }
@@ -96,6 +99,12 @@ fn keep_upper_number(before: &Shape, shape: &mut Shape) {
 fn add_twice(before: &Shape, call: Call, shape: &mut Shape) {
     if let (Call::Free { size, .. }, true) = (call, before.first != NONE) {
         shape.total += size;
+    }
+}
+
+fn keep_last_bytes(before: &Shape, shape: &mut Shape) {
+    if shape.first == NONE {
+        *shape = before.clone();
     }
 }
 

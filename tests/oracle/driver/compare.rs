@@ -63,12 +63,15 @@ impl Players {
         self.bench.keeps_the_last_bytes(call)?;
         let mut port = self.port.clone();
         let answer = port.play(call);
+        if let (Some(breakage), true) = (self.breakage, answer.is_accepted()) {
+            breakage.spoil(&self.port, call, &mut port);
+        }
         if answer != Answer::Accepted(address) {
             let (answer, due) = (answer.printed_for(&call), Answer::Accepted(address).printed_for(&call));
             return Err(format!("answer: the port `{answer}`, due is `{due}`"));
         }
         if port.image != Port::new().image {
-            return Err("the port is empty, and its image is not that of a new one".to_string());
+            return Err("the last bytes are out, and the image of the port is not that of a new one".to_string());
         }
         Ok(())
     }
