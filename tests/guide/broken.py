@@ -1,6 +1,10 @@
 """Pages broken on purpose, each of which must be noticed: the suite can fail."""
 import re
+import shutil
+import tempfile
+from pathlib import Path
 
+import figures
 from statics import CONTRACTS, GUIDE, problems
 
 # what is wrong then; the page; the first place of this pattern; what stands there instead; what a problem must speak of
@@ -33,3 +37,31 @@ def unnoticed(project, texts, take_apart):
         pages = {each: take_apart(each, text if each == name else texts[each]) for each in texts}
         if not any(word in problem for problem in problems(project, pages)):
             yield f"broken on purpose and NOT noticed: {what} ({name})"
+
+
+# what is wrong then; the file; what stands there; what stands there instead; what a problem must speak of
+MISDRAWN = [
+    ("a crate that is named and never imported", "crates.txt", "\nlaws: rules\n", "\nlaws: rules lists\n", "laws names lists"),
+    ("a crate that is imported and not named", "crates.txt", "\nengine: rules laws\n", "\nengine: rules\n", "engine does not name laws"),
+    ("other words of a crate", "crates.txt", "\n# the free ranges by address\n", "\n# the ranges\n", "docs/ARCHITECTURE.md is old"),
+    ("another title of a family", "crates.txt", "\n## doors\n", "\n## ports\n", "README.md is old"),
+    ("an old picture", "docs/layers.svg", ">chain<", ">chains<", "docs/layers.svg is old"),
+]
+DRAWN = ["crates", "crates.txt", "docs", "tools", "README.md"]
+
+
+def undrawn(project):
+    """The misdrawn copies that nothing was said about."""
+    with tempfile.TemporaryDirectory() as folder:
+        copy = Path(folder)
+        for name in DRAWN:
+            (shutil.copytree if (project / name).is_dir() else shutil.copy)(project / name, copy / name)
+        for what, name, old, new, word in MISDRAWN:
+            text = (project / name).read_text("utf-8")
+            if text.count(old) != 1:
+                yield f"tests/guide/broken.py: {what}: {name} has no one place to break, {old!r}"
+                continue
+            (copy / name).write_text(text.replace(old, new), "utf-8")
+            if not any(word in problem for problem in figures.layers(copy)):
+                yield f"broken on purpose and NOT noticed: {what} ({name})"
+            (copy / name).write_text(text, "utf-8")

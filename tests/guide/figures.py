@@ -1,5 +1,6 @@
 """The figures of the pages: counted lines, the map of the folders, and the picture of the layers."""
 import re
+import subprocess
 
 from pages import SPAN
 from names import crates
@@ -65,9 +66,9 @@ def folder_map(project, page):
         yield f"{block.where}: the map does not name {path}"
 
 
-def layers(project, page):
-    """The picture of the layers names each crate."""
-    words = {word for block in _pictures(page) for line in block.lines for word in re.findall(r"\w+", line)}
-    for name in crates(project):
-        if name not in words:
-            yield f"{page.name}: the picture of the layers does not name the crate {name}"
+def layers(project):
+    """The picture and the two tables of the crates are those of crates.txt, and crates.txt is what the files name."""
+    held = subprocess.run([project / "tools" / "layers", "--check"], stderr=subprocess.PIPE, text=True)
+    yield from held.stderr.splitlines()
+    if held.returncode and not held.stderr:
+        yield f"tools/layers --check ended with {held.returncode}"

@@ -9,7 +9,7 @@ from names import Names
 from pages import FILES, KINDS, PARTS
 from reader import commands
 
-GUIDE, CONTRACTS, LAYERS = "README.md", "docs/CONTRACTS.md", "docs/ARCHITECTURE.md"
+GUIDE, CONTRACTS = "README.md", "docs/CONTRACTS.md"
 EXAMPLE = ("calls.txt", "./run calls.txt")  # the bookkeeper's calls, and the command that answers them
 
 
@@ -70,7 +70,6 @@ def problems(project, pages):
     yield from Names(project, pages.values(), written, called).missing()
     yield from figures.counted_lines(project, pages[GUIDE])
     yield from figures.folder_map(project, pages[GUIDE])
-    yield from figures.layers(project, pages[LAYERS])
     yield from contracts.held(project, pages[CONTRACTS])
     yield from contracts.unnamed(project, pages[CONTRACTS])
     yield from _books(pages[GUIDE])

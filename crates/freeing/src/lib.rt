@@ -4,6 +4,7 @@ use chain::overlaps_neighbour;
 use chain::search_entry_previous_address;
 use entries::Moving;
 use give::define_free_memory;
+use links::Gap;
 use state::Address;
 use state::LISTS;
 use state::POOL;
@@ -35,7 +36,7 @@ fn free_piece(
     requires { ⌜ (address .0 < past .0) × (past .0 ≤ top) ⌝ }
     ensures { λ k. ⌜ Follows pool (freePiece pool (address .0) (past .0)) k total first heads start end enabled previous next lprev lnext ⌝ }
 {
-    let gap = search_entry_previous_address(start, next, RecordIndex(*first), address);
+    let gap: Gap = search_entry_previous_address(start, next, RecordIndex(*first), address);
     let before = gap.before;
     let after = gap.after;
     if overlaps_neighbour(start, end, before, after, address, past) {

@@ -3,6 +3,7 @@ use bytes_be::read_be;
 use image_parts::layout::LINK;
 use image_parts::layout::WORD;
 use image_parts::links::link_of;
+use state::RecordIndex;
 ghost use mathlib.Core.Path.{_≡_};
 ghost use lib.ListN.{length};
 ghost use Rattle.image_parts.specs.Layout.{current, word};
@@ -24,7 +25,7 @@ pub fn read_links(image: &[u8], at: usize, apart: usize, links: &mut [u16])
 {
     for i in 0..links.len() {
         let from = at + apart * i;
-        let r = link_of(read_be(&image[from..from + LINK]));
+        let r: RecordIndex = link_of(read_be(&image[from..from + LINK]));
         links[i] = r.0;
     }
 }
