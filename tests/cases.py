@@ -48,15 +48,25 @@ class Case:
     chain: list = None  # of the record's number, first and last byte
     shelf: list = None  # of the same, by size
 
+    def has_pages(self):
+        return any(line.word in "pq" for line in self.lines if isinstance(line, Call))
+
     def is_script(self):
         """Whether the script program can play it."""
-        return self.records is None and all(line.word not in "pq" for line in self.lines if isinstance(line, Call))
+        return self.records is None and not self.has_pages()
 
     def script(self):
         return [line.text() for line in self.lines]
 
     def printed(self):
         return [text for line in self.lines for text in line.printed()]
+
+    def listed(self):
+        """The listing of the book at its end, where that is said."""
+        if self.chain is None:
+            return []
+        ranges = tuple((first, last) for _, first, last in self.chain)
+        return [Listing(sum(last - first + 1 for first, last in ranges), ranges)]
 
 
 @dataclass

@@ -1,9 +1,9 @@
 """Long inputs and outputs, whose answers repeat."""
-from ledger import APART, ok
 from program import Case, lines
+from table import APART, RECORDS
 
 # from one free range, 65536 to 131071, back to it
-ROUND = ["a 4096 0", "f 65536 4096", "r 70000 100 12", "f 69632 4096", "a 65536 0", "f 131071 2", "bad", "l"]
+ROUND = ["a 4096 0", "f 65536 4096", "r 70000 100 12", "f 69632 4096", "a 65537 0", "f 131071 2", "bad", "l"]
 ROUND_ANSWERS = ["ok 65536", "ok", "ok", "ok", "no 3", "no 4", "bad", "list 1 65536", "65536 131071"]
 
 ROUNDS = 125000
@@ -16,5 +16,5 @@ def million():
 
 
 def listings():
-    table = ["list 64 262144"] + [f"{8192 * k} {8192 * k + 4095}" for k in range(1, 65)]
-    return Case("a thousand listings of 64 ranges", lines(APART.split("|") + ["l"] * 1000), lines(ok(64).split("|") + table * 1000))
+    table = [f"list {RECORDS} {4096 * RECORDS}"] + [f"{8192 * k} {8192 * k + 4095}" for k in range(1, RECORDS + 1)]
+    return Case(f"a thousand listings of {RECORDS} ranges", lines(APART + ["l"] * 1000), lines(["ok"] * RECORDS + table * 1000))
