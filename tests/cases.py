@@ -5,7 +5,9 @@ from pathlib import Path
 
 TABLE = Path(__file__).resolve().parent / "cases.txt"
 CALLS = {"f": 2, "a": 2, "r": 3, "p": 2, "q": 2}
-FACTOR = re.compile(r"([-+*]?)(\d+|RECORDS|K)")
+OPERAND = r"(\d+|RECORDS|K)"
+NUMBER = re.compile(rf"-?{OPERAND}([-+*]{OPERAND})*")
+STEP = re.compile(rf"([-+*]?){OPERAND}")
 
 
 class Unreadable(Exception):
@@ -84,12 +86,11 @@ class _Reader:
 
     def number(self, text, k):
         """Numbers, RECORDS and K with `*`, `+` and `-` between them, from left to right."""
-        parts = FACTOR.findall(text)
-        if "".join(sign + factor for sign, factor in parts) != text or not text:
+        if not NUMBER.fullmatch(text):
             raise ValueError(f"{text} is no number")
         value = 0
-        for sign, factor in parts:
-            operand = int({"RECORDS": self.pool, "K": k}.get(factor, factor))
+        for sign, word in STEP.findall(text):
+            operand = int({"RECORDS": self.pool, "K": k}.get(word, word))
             value = value * operand if sign == "*" else value - operand if sign == "-" else value + operand
         return value
 
