@@ -108,9 +108,14 @@ class _Reader:
             *fields, equals, answer = fields
             if equals != "=" or len(fields) != CALLS[word]:
                 raise ValueError("no call and its answer")
-            self.add(Call(word, tuple(self.number(text, k) for text in fields), self.number(answer, k)))
+            self.add(Call(word, tuple(self.number(text, k) for text in fields), self.answer(word, self.number(answer, k))))
         else:
             self.state(word, [self.number(text, k) for text in fields])
+
+    def answer(self, word, number):
+        if number < -4 or number > 0 and word not in "ap":
+            raise ValueError("no call answers so")
+        return number
 
     def begin(self, name):
         if name in self.names:
@@ -154,6 +159,9 @@ def read(text):
                 reader.read(line)
             except (ValueError, KeyError, IndexError, TypeError) as problem:
                 raise Unreadable(f"cases.txt:{number}: {line}: {problem}") from None
+    for case in reader.cases:
+        if (case.chain is None) != (case.shelf is None):
+            raise Unreadable(f"cases.txt: {case.name}: chain and shelf stand together")
     return Table(reader.pool, reader.cases)
 
 

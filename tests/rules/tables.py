@@ -21,6 +21,9 @@ OLD = [
     ("a number that is none", TABLE, "\npool 64\n", "\npool 6x\n", "is no number"),
     ("a call without its answer", TABLE, "\nr 65536 65536 0 = -3\n", "\nr 65536 65536 0\n", "no call and its answer"),
     ("two cases of one name", TABLE, "\ncase one byte past the top\n", "\ncase the script\n", "two cases have this name"),
+    ("an address that no call answers", TABLE, "\nr 65536 65536 0 = -3\n", "\nr 65536 65536 0 = 65536\n", "no call answers so"),
+    ("a book without its order by size", TABLE, "\nshelf 3 1 2 0\n", "\n", "chain and shelf stand together"),
+    ("a case without its book", TABLE, "\nchain 0 65536 65536\nshelf 0\n", "\n", "no case without its book"),
     ("a range on no shelf", TABLE, "\nshelf 3 1 2 0\n", "\nshelf 3 1 2\n", "is not on the shelf"),
 ]
 
