@@ -36,7 +36,7 @@ def endings():
     yield Case("a newline alone", b"\n", b"bad\n")
     yield Case("two newlines", b"\n\n", b"bad\nbad\n")
     yield Case("an empty line between", b"l\n\nl\n", b"list 0 0\nbad\nlist 0 0\n")
-    yield Case("no last newline", b"f 5 1\na 1 0", b"ok\nno 3\n")
+    yield Case("no last newline", b"f 5 1\na 2 0", b"ok\nno 3\n")
     yield Case("one line, no newline", b"l", b"list 0 0\n")
     yield Case("a bad last line, no newline", b"l\nx", b"list 0 0\nbad\n")
     yield Case("CRLF", lines(SCRIPT).replace(b"\n", b"\r\n"), b"bad\n" * len(SCRIPT))
