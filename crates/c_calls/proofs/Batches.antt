@@ -34,7 +34,8 @@ use Rattle.batch.proofs.Histories.{of-lists, made-sound, list-left, list-kept, 
 use Rattle.batch.proofs.Cuts.{Fits, single-left, single-answer, cut, asked-one, one-fits}
 use Rattle.listing.specs.Listing.{written}
 use Rattle.image_parts.specs.Layout.{Layout, imageSize}
-use Rattle.image.specs.Writing.{imageOf, Image}
+use Rattle.image_writing.specs.Writing.{imageOf}
+use Rattle.image.specs.Writing.{Image}
 use Rattle.image.proofs.Fitting.{Lawful}
 use Rattle.image.proofs.Rounds.{read-written, accepted-image}
 use Rattle.c_calls.specs.CCalls.{over, callOver, newOver, Returned, returned, finished}

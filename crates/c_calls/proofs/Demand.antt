@@ -19,7 +19,7 @@ use Rattle.calls.specs.Calls.{voucherFrom}
 use Rattle.calls.specs.declared.Outcome.{Outcome}
 use Rattle.memory_allocator.proofs.Steps.{sound-held, made-held, made-voucher}
 use Rattle.image_parts.specs.Layout.{Layout, imageSize}
-use Rattle.image.specs.Writing.{imageOf}
+use Rattle.image_writing.specs.Writing.{imageOf}
 use Rattle.image.specs.Reading.{Handed, stateIn}
 use Rattle.image.proofs.Fitting.{Lawful, sound-fits}
 use Rattle.image.proofs.ReadBack.{state-back}

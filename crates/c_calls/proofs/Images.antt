@@ -14,7 +14,7 @@ use Rattle.serving.specs.Made.{made}
 use Rattle.calls.specs.declared.Outcome.{Outcome}
 use Rattle.memory_allocator.proofs.Refusals.{refused-same}
 use Rattle.image_parts.specs.Layout.{Layout}
-use Rattle.image.specs.Writing.{imageOf}
+use Rattle.image_writing.specs.Writing.{imageOf}
 use Rattle.image.proofs.Fitting.{Lawful}
 use Rattle.image.proofs.Rounds.{read-written}
 use Rattle.c_calls.specs.CCalls.{Returned, finished, over, callOver}

@@ -21,7 +21,7 @@ use Rattle.calls.specs.declared.Outcome.{Outcome}
 use Rattle.bytes_be.specs.Numbers.{Bytes}
 use Rattle.image_parts.specs.Layout.{Layout, imageSize}
 use Rattle.image.specs.Writing as writing
-use Rattle.image.specs.Writing.{imageOf}
+use Rattle.image_writing.specs.Writing.{imageOf}
 use Rattle.image.specs.Reading.{Handed, handed, readingOf}
 use Rattle.image.specs.declared.ImageAnswer as image
 use Rattle.image.specs.declared.ImageAnswer.the-variants as image-answer

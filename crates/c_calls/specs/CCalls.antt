@@ -14,7 +14,7 @@ use Rattle.serving.specs.Made.{made}
 use Rattle.calls.specs.declared.Outcome.{Outcome}
 use Rattle.pages.specs.Calls.{PageCall, AllocatePages, FreePages, byteCall}
 use Rattle.image_parts.specs.Layout.{Layout, imageSize}
-use Rattle.image.specs.Writing.{imageOf}
+use Rattle.image_writing.specs.Writing.{imageOf}
 use Rattle.image.specs.Reading.{readingOf}
 
 -- what a call returns, and the image that it leaves

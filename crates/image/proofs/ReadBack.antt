@@ -20,7 +20,7 @@ use Rattle.bytes_be.specs.Numbers.{be, number}
 use Rattle.bytes_be.proofs.Laws.{length-be, number-be}
 use Rattle.image_parts.specs.Layout.{Layout, word, noLink, lengthAt, lengthSize, totalAt, firstAt, headsAt, recordsAt, endAt, enabledAt, linksAt, recordSize, imageSize, restSize}
 use Rattle.image_parts.specs.Written.{joined, linkNumber, flagNumber, linkBytes, recordBytes, headBytes}
-use Rattle.image.specs.Writing.{entryAt, imageOf}
+use Rattle.image_writing.specs.Writing.{entryAt, imageOf}
 use Rattle.image_parts.specs.Read.{numberIn, linkOf, numbersIn, linksIn, flagsIn, bits}
 use Rattle.image.specs.Reading.{stateIn}
 use Rattle.image_parts.specs.declared.records.MemoryEntry.{MemoryEntry}

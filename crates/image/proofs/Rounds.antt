@@ -16,7 +16,8 @@ use Rattle.soundness.specs.Paragraph.{Sized}
 use Rattle.soundness.proofs.Exact.{sound-passes, passes-sound}
 use Rattle.bytes_be.specs.Numbers.{Bytes}
 use Rattle.image_parts.specs.Layout.{Layout, imageSize}
-use Rattle.image.specs.Writing.{imageOf, Image, numberOf, written, writingOf}
+use Rattle.image_writing.specs.Writing.{imageOf}
+use Rattle.image.specs.Writing.{Image, numberOf, written, writingOf}
 use Rattle.image_parts.specs.Read.{numbersIn, linksIn, flagsIn}
 use Rattle.image.specs.Reading.{framed, stateIn, Handed, accepted, refused, readingOf}
 use Rattle.image.specs.declared.ImageAnswer.the-variants.{Done, InvalidEntry}

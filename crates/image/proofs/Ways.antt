@@ -10,7 +10,8 @@ use Rattle.lists.proofs.Laws.{true≢false}
 use Rattle.state.specs.declared.MemoryAllocator.{MemoryAllocator}
 use Rattle.sound.specs.IsSound.{isSound}
 use Rattle.image_parts.specs.Layout.{Layout, lengthAt, lengthSize, recordsAt, enabledAt, recordSize, imageSize, restSize}
-use Rattle.image.specs.Writing.{imageOf, written, writingOf}
+use Rattle.image_writing.specs.Writing.{imageOf}
+use Rattle.image.specs.Writing.{written, writingOf}
 use Rattle.image_parts.specs.Read.{numberIn, bits}
 use Rattle.image.specs.Reading.{framed, stateIn, accepted, refused, readingOf}
 use Rattle.image.specs.declared.ImageAnswer.the-variants.{Done, InvalidEntry}

@@ -17,7 +17,7 @@ use Rattle.state.proofs.States.{at-tab}
 use Rattle.bytes_be.specs.Numbers.{be, Bytes}
 use Rattle.image_parts.specs.Layout.{Layout, word, noLink, lengthAt, lengthSize, totalAt, firstAt, headsAt, recordsAt, endAt, enabledAt, linksAt, recordSize, imageSize}
 use Rattle.image_parts.specs.Written.{joined, linkNumber, flagNumber, linkBytes, recordBytes, headBytes}
-use Rattle.image.specs.Writing.{entryAt, imageOf}
+use Rattle.image_writing.specs.Writing.{entryAt, imageOf}
 use Rattle.image_parts.specs.Read.{numberIn, linkOf, numbersIn, linksIn, flagsIn, bits}
 use Rattle.image.specs.Reading.{stateIn}
 use Rattle.image.proofs.Places.{one-byte, beside, part-below, again, joined-take}
