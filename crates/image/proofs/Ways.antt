@@ -41,10 +41,6 @@ pub record Frame (f : Layout) (l : List ℕ) : Type 0 where
   pub rests : numberIn l lengthAt lengthSize ≡ restSize f
   pub flags : bits l (recordsAt f + enabledAt) (recordSize f) (f .records) 0 ≡ true
 
-pub both : (a b : Bool) → (a && b) ≡ true → (a ≡ true) × (b ≡ true)
-both true b h = (refl, h)
-both false b h = true≢false (sym h)
-
 module _ (f : Layout) (l : List ℕ) where
   pub framed-not : (length l ≡ imageSize f → ⊥) → false ≡ framed f l
   unfolding framed

@@ -28,14 +28,6 @@ use Rattle.image.proofs.Fitting.{Lawful}
 flag-again : (x : ℕ) → x ≤ 1 → flagNumber (eqb x 1) ≡ x
 flag-again x h = ⊎-elim (λ (e : x ≡ 1). rw (eq-eqb x 1 e) (sym e)) (λ e. rw (ne-eqb x 1 e) (omega arith)) (same? x 1)
 
--- the i-th of the bytes that are 0 or 1
-bit-at : (l : List ℕ) (a d n j i : ℕ) → bits l a d n j ≡ true → j ≤ i → i < j + n → getD l (a + d * i) 0 ≤ 1
-unfolding bits
-bit-at l a d zero j i e h b = absurd (omega arith)
-bit-at l a d (suc n) j i e h b =
-    let p = both (leb (getD l (a + d * j) 0) 1) _ e in
-    ⊎-elim (λ (q : i ≡ j). rw q (leb-true _ 1 (p .0))) (λ q. bit-at l a d n (suc j) i (p .1) (omega arith) (omega arith)) (same? i j)
-
 module _ (f : Layout) (lawful : Lawful f) where
   link-again : (x : ℕ) → x < 256 ^ (f .link) → linkNumber f (linkOf f x) ≡ x
   link-again x h =

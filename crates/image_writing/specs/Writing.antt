@@ -1,5 +1,5 @@
 -- The bytes of a state, and what stands of them before they are written. Assumes nothing.
-use Prim.Native.Nat.{ℕ, _+_, _*_, _<_}
+use Prim.Native.Nat.{ℕ, _+_, _<_}
 use mathlib.Core.Bool.{Bool, false}
 use mathlib.Core.List.{List, _++_}
 use mathlib.Core.Logic.{_≢_}
@@ -8,7 +8,7 @@ use denote.Ref.{RefT, now}
 use lib.ListN.{getD, take, drop}
 use Rattle.state.specs.Lent.{Lent, was, is}
 use Rattle.state.specs.declared.MemoryAllocator.{MemoryAllocator}
-use Rattle.image_parts.specs.Layout.{Layout, recordsAt, enabledAt, recordSize}
+use Rattle.image_parts.specs.Layout.{Layout, recordsAt, enabledAt, recordSize, recordAt}
 use Rattle.image_parts.specs.Written.{joined, recordBytes, headBytes}
 use Rattle.image_parts.specs.declared.records.MemoryEntry.{MemoryEntry}
 
@@ -33,10 +33,7 @@ imageOf f s = headBytes f (s .«free_size») (s .«first_entry» .0) (s .«free_
 
 -- ---- what the inner functions cite
 
--- the first byte of record i, its bytes in an image, and the one of them that says whether it is in use
-abbrev pub recordAt : Layout → ℕ → ℕ
-recordAt f i = recordsAt f + recordSize f * i
-
+-- the bytes of record i in an image, and the one of them that says whether it is in use
 abbrev pub recordIn : Layout → List ℕ → ℕ → List ℕ
 recordIn f l i = take (recordSize f) (drop (recordAt f i) l)
 
