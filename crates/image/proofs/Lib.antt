@@ -1,7 +1,6 @@
 -- Laws of the image.
 pub mod Ways
 pub mod Tight
-pub mod Places
 pub mod Fitting
 pub mod ReadBack
 pub mod WriteBack
