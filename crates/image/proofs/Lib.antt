@@ -5,3 +5,4 @@ pub mod Fitting
 pub mod ReadBack
 pub mod WriteBack
 pub mod Rounds
+pub mod Standing
