@@ -1,6 +1,6 @@
 -- The C call for a list of calls, by each way through the code. Assumes nothing.
 use Prim.Native.Nat.{ℕ}
-use mathlib.Core.Bool.{true, false, not}
+use mathlib.Core.Bool.{true, false}
 use mathlib.Core.List.{List}
 use mathlib.Core.Path.{_≡_, refl, sym, _∙_, ap, subst}
 use lib.IntN.{ℤ, pos}
@@ -14,7 +14,7 @@ use Rattle.soundness.proofs.Exact.{passes-sound}
 use Rattle.calls.specs.Calls.{signedOf}
 use Rattle.calls.specs.declared.Answer.the-variants.{Accepted, InvalidEntry, InvalidRequest}
 use Rattle.calls.specs.declared.Outcome.{Outcome}
-use Rattle.batch.specs.Lists.{fitted, listServed, Served, Serves}
+use Rattle.batch.specs.Lists.{fitted, Served, Serves}
 use Rattle.batch.proofs.Histories.{list-sound}
 use Rattle.batch.proofs.Ways.{unfitted, done}
 use Rattle.bytes_be.specs.Numbers.{Bytes}
@@ -24,7 +24,6 @@ use Rattle.image_parts.proofs.Loops.{both}
 use Rattle.image_writing.specs.Writing.{entryAt, imageOf, Standing}
 use Rattle.image_reading.specs.Reading.{stateIn, framed, readable}
 use Rattle.image_reading.proofs.Whole.{state-sized}
-use Rattle.image.specs.Reading.{readingOf}
 use Rattle.image.proofs.Ways.{framed-frame, unread, read-whole}
 use Rattle.image.proofs.Standing.{stands}
 use Rattle.c_calls.specs.CCalls.{returned, finished, over}

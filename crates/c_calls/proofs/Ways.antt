@@ -18,6 +18,6 @@ module _ (f : Layout) (l : List ℕ) where
   unfolding newOver over
   no-room h = rw (ne-eqb (length l) (imageSize f) h)
 
-  pub new-written : length l ≡ imageSize f → (l′ : List ℕ) → l′ ≡ imageOf f (stateOf (f .records) empty) → returned (pos 0) l′ ≡ newOver f l
+  pub new-done : length l ≡ imageSize f → (l′ : List ℕ) → l′ ≡ imageOf f (stateOf (f .records) empty) → returned (pos 0) l′ ≡ newOver f l
   unfolding newOver over finished
-  new-written h l′ e = rw (eq-eqb (length l) (imageSize f) h, e)
+  new-done h l′ e = rw (eq-eqb (length l) (imageSize f) h, e)

@@ -35,7 +35,18 @@ fn serve_held(
 {
     if list_fits(calls, answers.len()) {
         serve_list_in(
-            total, first, heads, start, end, enabled, previous, next, lprev, lnext, calls, answers,
+            total,
+            first,
+            heads,
+            start,
+            end,
+            enabled,
+            previous,
+            next,
+            lprev,
+            lnext,
+            calls,
+            answers,
         );
         write_fields(
             image,

@@ -52,9 +52,7 @@ pub fn read_fields(
     ensures { λ r. ⌜ ReadsFields current image r total first heads start end enabled previous next lprev lnext ⌝ }
 {
     if is_headed(image) {
-        if read_records(
-            image, start, end, enabled, previous, next, lprev, lnext,
-        ) {
+        if read_records(image, start, end, enabled, previous, next, lprev, lnext) {
             *total = word_in(image, TOTAL);
             *first = link_in(image, FIRST, 0);
             read_links(image, HEADS, heads);

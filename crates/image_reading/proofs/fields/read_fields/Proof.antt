@@ -22,17 +22,18 @@ sized c = headed-sized current _ (sym (c .before .is-headed .ensures) ∙ c .if1
 read-records-requires : tie.Need-read-records-requires
 read-records-requires c κs =
     let headed = c .before .before .before .before .before .before .before in
-    let fresh = emptied pool _ (headed .before .before .before .pre) in
-    (sized headed,
-    record {
-      starts = fresh .start;
-      ends = fresh .end;
-      flags = fresh .enabled;
-      previouses = fresh .previous;
-      nexts = fresh .next;
-      lprevs = fresh .lprev;
-      lnexts = fresh .lnext;
-    })
+    let fresh = emptied pool _ (headed .before .before .before .pre) in (
+      sized headed,
+      record {
+        starts = fresh .start;
+        ends = fresh .end;
+        flags = fresh .enabled;
+        previouses = fresh .previous;
+        nexts = fresh .next;
+        lprevs = fresh .lprev;
+        lnexts = fresh .lnext;
+      },
+    )
 
 word-in-requires : tie.Need-word-in-requires
 word-in-requires c κs =

@@ -51,9 +51,10 @@ loop-again c =
     let head = zero .before .before .before in
     let l = head .loop in
     let image = head .before .before .args .image .now in
-    let fresh = sym (compared .is-fresh .ensures) ∙ c .if2 .taken in
-    (plain-next current _ pool (l .i) (omega arith) (plain-unused current image (recordAt current (l .i)) true (zero .if1 .taken) (sym fresh)) ∙ l .inv .0,
-    decode-pass current _ _ _ _ _ _ _ _ (l .i) (omega arith) (l .inv .1) (zero .if1 .taken) fresh)
+    let fresh = sym (compared .is-fresh .ensures) ∙ c .if2 .taken in (
+      plain-next current _ pool (l .i) (omega arith) (plain-unused current image (recordAt current (l .i)) true (zero .if1 .taken) (sym fresh)) ∙ l .inv .0,
+      decode-pass current _ _ _ _ _ _ _ _ (l .i) (omega arith) (l .inv .1) (zero .if1 .taken) fresh,
+    )
 
 returns : tie.Need-returns Inv-loop μ-loop
 returns c =
@@ -140,9 +141,10 @@ loop-again-2 c =
     let one = c .before in
     let head = one .before .before .before .before in
     let l = head .loop in
-    let image = head .before .before .args .image .now in
-    (plain-next current _ pool (l .i) (omega arith) (plain-used current image (recordAt current (l .i)) (one .if3 .left)) ∙ l .inv .0,
-    decode-put current _ _ _ _ _ _ _ _ (l .i) (omega arith) (l .inv .1) _ (one .if3 .left) (c .record-in .ensures))
+    let image = head .before .before .args .image .now in (
+      plain-next current _ pool (l .i) (omega arith) (plain-used current image (recordAt current (l .i)) (one .if3 .left)) ∙ l .inv .0,
+      decode-put current _ _ _ _ _ _ _ _ (l .i) (omega arith) (l .inv .1) _ (one .if3 .left) (c .record-in .ensures),
+    )
 
 returns-3 : tie.Need-returns-3 Inv-loop μ-loop
 returns-3 c =
