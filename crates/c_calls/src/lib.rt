@@ -2,6 +2,7 @@
 use calls::INVALID_ENTRY;
 use image_parts::layout::IMAGE;
 use image_writing::write_fields;
+use many::DONE;
 use many::list_over;
 use memory_allocator::Address;
 use memory_allocator::Request;
@@ -47,7 +48,7 @@ pub extern "C" fn cinghjalofa_new(image: &mut [u8]) -> i64
         &links,
         &links,
     );
-    0
+    DONE
 }
 
 // `size` bytes from a multiple of 2^order; the answer is the address of the first.

@@ -12,6 +12,9 @@ ghost use Rattle.image_parts.specs.Layout.{current};
 ghost use Rattle.state.specs.Lent.{was, is};
 ghost use Rattle.c_calls.specs.Lists.{BatchOver, HeldIn};
 
+// What a list that was served is answered, and the call that begins an image.
+pub const DONE: i64 = 0;
+
 const INVALID_REQUEST: i64 = -4;
 
 // The list, on the fields of the state whose image this is. Of the records, those that are in use or were are written.
@@ -62,7 +65,7 @@ fn serve_held(
             lprev,
             lnext,
         );
-        return 0;
+        return DONE;
     }
     INVALID_REQUEST
 }
@@ -82,7 +85,7 @@ pub fn list_over(image: &mut [u8], calls: &[u64], answers: &mut [i64]) -> i64
     let mut next = [NONE; POOL];
     let mut lprev = [NONE; POOL];
     let mut lnext = [NONE; POOL];
-    if read_fields(
+    let readable = read_fields(
         &image[..],
         &mut total,
         &mut first,
@@ -94,7 +97,8 @@ pub fn list_over(image: &mut [u8], calls: &[u64], answers: &mut [i64]) -> i64
         &mut next,
         &mut lprev,
         &mut lnext,
-    ) {
+    );
+    if readable {
         return serve_held(
             image,
             &mut total,
