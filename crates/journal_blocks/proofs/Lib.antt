@@ -1,0 +1,3 @@
+-- Laws of a journal's bytes.
+pub mod Ways
+pub mod Laid
