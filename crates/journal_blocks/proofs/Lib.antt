@@ -1,3 +1,5 @@
 -- Laws of a journal's bytes.
 pub mod Ways
 pub mod Laid
+pub mod Seen
+pub mod Rounds
