@@ -3,3 +3,4 @@ pub mod Ways
 pub mod Laid
 pub mod Seen
 pub mod Rounds
+pub mod Back

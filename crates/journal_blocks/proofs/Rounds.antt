@@ -141,4 +141,4 @@ blocks-length (e ∷ es) = let a = length-append (blockBytes e) (blocksBytes es)
 
 -- What the writer writes, the reader reads.
 pub read-written : (es : List Entry) → AllFit es → readAll (journalBytes es) ≡ contents es End
-read-written es f = read-blocks (length (journalBytes es)) (journalBytes es) 1 es f refl (let h = blocks-length es in omega arith)
+read-written es f = read-blocks (length (blocksBytes es)) (blocksBytes es) 0 es f refl (blocks-length es)

@@ -65,13 +65,13 @@ at-least size t = go (eqb size 25) refl (eqb size 33) refl t
     go false f true g t = let a = eqb→eq size 33 (subst T (sym g) tt) in omega arith
     go false f false g t = absurd (rw (f, g) at t)
 
--- the place after a call is further on, and its block is there
+-- the place after a call is further on, and its block is there; a fault has a byte
 abbrev pub Ahead : ℕ → List ℕ → Block → Type 0
 Ahead at r (Call e next) = (at + 27 ≤ next) × (next ≤ at + length r)
 Ahead at r End = Unit {0}
 Ahead at r Truncated = Unit {0}
-Ahead at r UnknownCall = Unit {0}
-Ahead at r WrongLength = Unit {0}
+Ahead at r UnknownCall = 0 < length r
+Ahead at r WrongLength = 0 < length r
 
 pub ahead : (at : ℕ) (r : List ℕ) → Ahead at r (blockOf at r)
 ahead at r = go (blockOf at r) (seen at r)
@@ -79,7 +79,7 @@ ahead at r = go (blockOf at r) (seen at r)
     go : (w : Block) → Seen at r w → Ahead at r w
     go _ (none h) = tt
     go _ short = tt
-    go _ (unsized h d) = tt
-    go _ (unknown w d) = tt
-    go _ (unfit w k d) = tt
+    go _ (unsized h d) = omega arith
+    go _ (unknown w d) = let q = w .there in omega arith
+    go _ (unfit w k d) = let q = w .there in omega arith
     go _ (call w k e) = let p = at-least (sizeIn r) (w .sized) in let q = w .there in (omega arith, omega arith)

@@ -126,7 +126,7 @@ readFrom zero l at = contents [] End
 readFrom (suc k) l at = followedBy (readFrom k l) (blockAt l at)
 
 abbrev pub readAll : List ℕ → Contents
-readAll l = readFrom (length l) l 1
+readAll l = readFrom (length (drop 1 l)) (drop 1 l) 0
 
 -- ---- what is written, and read again
 
