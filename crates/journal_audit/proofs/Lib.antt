@@ -1,1 +1,3 @@
 -- Laws of an audit.
+pub mod Ways
+pub mod Underway

@@ -121,7 +121,7 @@ fn audit_block(a: Auditing, part: &[u8], at: usize) -> Audited
 // cuts off: they go before the next part.
 pub fn audit_part(a: Auditing, part: &[u8]) -> Audited
     requires { ⌜ SoundState pool (a .state) ⌝ }
-    requires { ⌜ a .index + length (now part) < 2 ^ 64 ⌝ }
+    requires { ⌜ a .index + length (now part) + 1 < 2 ^ 64 ⌝ }
     ensures { λ r. ⌜ r ≡ auditedOn pool a (was part) ⌝ }
 {
     let mut done = Audited {
@@ -129,7 +129,7 @@ pub fn audit_part(a: Auditing, part: &[u8]) -> Audited
         used: 0,
         stop: Stop::More,
     };
-    let mut going = part.len() > 0;
+    let mut going = true;
     while going {
         let auditing = done.auditing;
         let at = done.used;

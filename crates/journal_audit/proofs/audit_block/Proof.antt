@@ -1,58 +1,61 @@
+use mathlib.Core.Path.{refl}
+use lib.Dec.{lit≤}
+use Rattle.state.specs.Shown.{pool}
+use Rattle.journal_audit.proofs.Ways.{block-judged, fault-judged}
 use borrow.Author.Needs.{needs}
 use Rattle.journal_audit.proofs.audit_block.Statement.{statement}
 use Rattle.journal_audit.proofs.audit_block.Tie as tie
-use Rattle.journal_audit.proofs.audit_block.Reads as reads
-use Rattle.journal_audit.proofs.audit_block.Lts as lts
-use Rattle.journal_audit.proofs.audit_call.Reads as audit-call-reads
-use Rattle.journal_blocks.proofs.read_block.Reads as read-block-reads
 
--- src/lib.rt:95:11
 read-block-requires : tie.Need-read-block-requires
 read-block-requires c κs = search needs
 
--- src/lib.rt:96:21
 enum-known-entry : tie.Need-enum-known-entry
 enum-known-entry c = search needs
 
--- src/lib.rt:96:37
 audit-call-requires : tie.Need-audit-call-requires
 audit-call-requires c κs = search needs
 
--- src/lib.rt:100:19
 enum-told : tie.Need-enum-told
 enum-told c = search needs
 
--- src/lib.rt:105:19
 enum-told-2 : tie.Need-enum-told-2
 enum-told-2 c = search needs
 
--- src/lib.rt:110:19
 enum-told-3 : tie.Need-enum-told-3
 enum-told-3 c = search needs
 
--- src/lib.rt:115:19
 enum-told-4 : tie.Need-enum-told-4
 enum-told-4 c = search needs
 
--- src/lib.rt:90:1
 returns : tie.Need-returns
-returns c = ?
+returns c =
+    let read = c .before .before .before .before in
+    let s = read .before .before in
+    block-judged pool (s .args .a) _ _ _ (read .read-block .ensures) _ (c .before .before .entry .given .1) _ (c .audit-call .ensures)
 
--- src/lib.rt:90:1
 returns-2 : tie.Need-returns-2
-returns-2 c = ?
+returns-2 c =
+    let read = c .before .before in
+    let s = read .before .before in
+    fault-judged pool (lit≤ tt) (s .args .a) _ (s .pre .0) _ _ (read .read-block .ensures) _ (c .enum-told .given .1) _ refl
 
--- src/lib.rt:90:1
 returns-3 : tie.Need-returns-3
-returns-3 c = ?
+returns-3 c =
+    let read = c .before .before in
+    let s = read .before .before in
+    fault-judged pool (lit≤ tt) (s .args .a) _ (s .pre .0) _ _ (read .read-block .ensures) _ (c .enum-told2 .given .1) _ refl
 
--- src/lib.rt:90:1
 returns-4 : tie.Need-returns-4
-returns-4 c = ?
+returns-4 c =
+    let read = c .before .before in
+    let s = read .before .before in
+    fault-judged pool (lit≤ tt) (s .args .a) _ (s .pre .0) _ _ (read .read-block .ensures) _ (c .enum-told3 .given .1) _ refl
 
--- src/lib.rt:90:1
 returns-5 : tie.Need-returns-5
-returns-5 c = ?
+returns-5 c =
+    let read = c .before .before in
+    let s = read .before .before in
+    fault-judged pool (lit≤ tt) (s .args .a) _ (s .pre .0) _ _ (read .read-block .ensures) _ (c .enum-told4 .given .1) _ refl
 
 pub audit-block-spec : {M : Type 1} → statement M
 audit-block-spec =

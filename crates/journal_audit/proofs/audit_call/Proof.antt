@@ -1,30 +1,34 @@
+use lib.Dec.{lit≤}
+use Rattle.state.specs.Shown.{pool}
+use Rattle.soundness.proofs.Exact.{sound-passes}
+use Rattle.journal_audit.proofs.Ways.{call-differs, call-agrees}
 use borrow.Author.Needs.{needs}
 use Rattle.journal_audit.proofs.audit_call.Statement.{statement}
 use Rattle.journal_audit.proofs.audit_call.Tie as tie
-use Rattle.journal_audit.proofs.audit_call.Reads as reads
-use Rattle.journal_audit.proofs.audit_call.Lts as lts
-use Rattle.journal_blocks.proofs.answer_bits.Reads as answer-bits-reads
-use Rattle.serving.proofs.serve_sound.Reads as serve-sound-reads
 
--- src/lib.rt:68:9
 serve-sound-requires : tie.Need-serve-sound-requires
-serve-sound-requires c κs = ?
+serve-sound-requires c κs = sound-passes pool (lit≤ tt) _ (c .pre .0)
 
--- src/lib.rt:70:8
 answer-bits-requires : tie.Need-answer-bits-requires
 answer-bits-requires c κs = search needs
 
--- src/lib.rt:71:9
 returns : tie.Need-returns
-returns c = ?
+returns c =
+    let told = c .before .before in
+    let served = told .before in
+    let s = served .before in
+    call-differs pool (lit≤ tt) (s .args .a) (s .args .entry) _ _ (s .pre .0) _ (served .serve-sound .ensures) _ (told .answer-bits .ensures) (c .if1 .taken)
 
--- src/lib.rt:80:16
 add-t10 : tie.Need-add-t10
 add-t10 c = search needs
 
--- src/lib.rt:62:1
 returns-2 : tie.Need-returns-2
-returns-2 c = ?
+returns-2 c =
+    let same = c .before .before in
+    let told = same .before .before in
+    let served = told .before in
+    let s = served .before in
+    call-agrees pool (lit≤ tt) (s .args .a) (s .args .entry) _ _ (s .pre .0) _ (served .serve-sound .ensures) _ (told .answer-bits .ensures) (same .if1 .left)
 
 pub audit-call-spec : {M : Type 1} → statement M
 audit-call-spec =

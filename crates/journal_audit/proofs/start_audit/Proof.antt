@@ -1,17 +1,15 @@
+use mathlib.Core.Path.{ap}
+use Rattle.state.specs.declared.MemoryAllocator.{MemoryAllocator}
+use Rattle.journal_audit.specs.declared.Auditing.{Auditing}
 use borrow.Author.Needs.{needs}
 use Rattle.journal_audit.proofs.start_audit.Statement.{statement}
 use Rattle.journal_audit.proofs.start_audit.Tie as tie
-use Rattle.journal_audit.proofs.start_audit.Reads as reads
-use Rattle.journal_audit.proofs.start_audit.Lts as lts
-use Rattle.state.proofs.new.Reads as new-reads
 
--- src/lib.rt:56:16
 new-requires : tie.Need-new-requires
 new-requires c κs = search needs
 
--- src/lib.rt:52:1
 returns : tie.Need-returns
-returns c = ?
+returns c = ap (λ (s : MemoryAllocator). record { state = s; index = 0 }) (c .new .ensures)
 
 pub start-audit-spec : {M : Type 1} → statement M
 start-audit-spec = tie.close (tie.spec new-requires returns)
