@@ -1,3 +1,4 @@
 -- Laws of an audit.
 pub mod Ways
 pub mod Underway
+pub mod Runs
