@@ -2,3 +2,4 @@
 pub mod Ways
 pub mod Underway
 pub mod Runs
+pub mod Exact
