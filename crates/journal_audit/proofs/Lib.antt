@@ -3,3 +3,5 @@ pub mod Ways
 pub mod Underway
 pub mod Runs
 pub mod Exact
+pub mod Closes
+pub mod Parts
