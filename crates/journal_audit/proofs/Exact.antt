@@ -127,9 +127,10 @@ pub recorded-fit : (n : ℕ) (b : Book) → Sound n b → (qs : List Request) �
 unfolding AllAsk AllFit recorded
 recorded-fit n b s [] f = tt
 recorded-fit n b s (q ∷ qs) f =
-    let w = replayed n b q in
-    ((f .0, bits-below (answerOf (w .number) (w .address)) (answered-below (w .number) (w .address) (step-below n b (callOf q) s))),
-    recorded-fit n (w .book) (step-sound n b (callOf q) s) qs (f .1))
+    let w = replayed n b q in (
+      (f .0, bits-below (answerOf (w .number) (w .address)) (answered-below (w .number) (w .address) (step-below n b (callOf q) s))),
+      recorded-fit n (w .book) (step-sound n b (callOf q) s) qs (f .1),
+    )
 
 recorded-length : (n : ℕ) (b : Book) (qs : List Request) → length (recorded n b qs) ≡ length qs
 unfolding recorded
