@@ -18,6 +18,7 @@ ghost use Rattle.c_calls.specs.CCalls.{returned, newOver, allocateOver, 
 ghost use Rattle.c_calls.specs.Lists.{BatchOver};
 
 mod finish;
+mod journal;
 mod many;
 mod over;
 
