@@ -19,6 +19,7 @@ ghost use Rattle.image_parts.specs.Layout.{current};
 ghost use Rattle.c_calls.specs.CCalls.{returned, newOver, allocateOver, reserveOver, freeOver, allocatePagesOver, freePagesOver};
 ghost use Rattle.c_calls.specs.Lists.{BatchOver};
 
+mod journal;
 mod many;
 mod over;
 
