@@ -55,6 +55,23 @@ def build():
     return BUILT / "release" / "bench"
 
 
+def archive():
+    """The archive that is measured."""
+    of_the_project = {"aarch64": "target/aarch64/libc_calls.a"}.get(os.uname().machine, "target/staticlib/libc_calls.a")
+    return Path(os.environ.get("CINGHJALOFA_ARCHIVE", PROJECT / of_the_project)).resolve()
+
+
+def sizes():
+    """Lines of the stack that each path takes, and of the code in each object of the archive."""
+    program = BUILT / "stack"
+    words = ["gcc", "-std=c99", "-O2", f"-I{PROJECT / 'include'}", BENCH / "stack.c", archive(), "-o", program]
+    run(words)
+    stack = run([program], stdout=subprocess.PIPE)
+    rows = run(["size", archive()], stdout=subprocess.PIPE).splitlines()[1:]
+    code = [f"code\t{row.split()[5]}\t{row.split()[0]}" for row in rows]
+    return stack + "\n".join(code)
+
+
 def versions():
     compiler = " ".join(run(["rustc", "--version"], stdout=subprocess.PIPE).split()[:2])
     kit = run(["rt", "version"], stdout=subprocess.PIPE).strip()
@@ -73,9 +90,10 @@ def smoke(program):
 
 
 def measure(program):
-    results = report.Results(run([program], stdout=subprocess.PIPE))
-    print(f"Time as a multiple of the module's, on {results.processor}:\n\n{report.table(results)}\n")
-    print(f"{report.lengths(results)}\n\n{report.long_list(results)}\n")
+    results = report.Results(run([program], stdout=subprocess.PIPE) + sizes())
+    print(f"Time as a multiple of the module's, on {results.processor}:\n\n{report.table(results, results.ratios)}\n")
+    print(f"a page allocated and freed at once:\n\n{report.table(results, results.pairs)}\n")
+    print(f"{report.growth(results)}\n\n{report.lengths(results)}\n\n{report.long_lists(results)}\n\n{report.sizes(results)}\n")
     return results
 
 

@@ -5,30 +5,38 @@ from html import escape
 
 BAR, GAP, GROUP_GAP, TOP = 16, 4, 14, 76
 LEFT, WIDTH, RIGHT = 216, 400, 44
-COLOURS = ("#8a8f98", "#2f6f9f", "#b5651d", "#4d7c4d")
+COLOURS = ("#8a8f98", "#2f6f9f", "#7fa8c9", "#b5651d", "#4d7c4d", "#8fbf8f", "#9a6aa8")
 MARKS = (0.1, 0.2, 0.5, 1, 2, 5, 10, 20, 50, 100, 200, 500)
+
+
+CHECKED, UNCHECKED = "own state, checked", "own state, unchecked"
 
 
 class Results:
     """The lines that the program prints, taken apart."""
 
     def __init__(self, printed):
-        self.processor, self.effort, self.ratios, self.paths, self.compared = "", [], {}, [], 0
-        self.by_length, self.long = {}, []
+        self.processor, self.effort, self.paths, self.compared = "", [], [], 0
+        self.ratios, self.pairs, self.by_growth, self.by_length, self.long, self.stack, self.code = {}, {}, {}, {}, {}, {}, {}
         for line in printed.splitlines():
             kind, *fields = line.split("\t")
             if kind == "processor":
                 self.processor = fields[0]
             elif kind == "effort":
                 self.effort = fields
-            elif kind == "ratio":
+            elif kind in ("ratio", "pair"):
                 ranges, path, ratio = fields
-                self.ratios[self.known(path), int(ranges)] = float(ratio)
+                {"ratio": self.ratios, "pair": self.pairs}[kind][self.known(path), int(ranges)] = float(ratio)
+            elif kind == "growth":
+                self.by_growth[fields[0]] = float(fields[1])
             elif kind == "length":
-                length, ratio = fields
-                self.by_length[int(length)] = float(ratio)
+                length, path, ratio = fields
+                self.by_length.setdefault(path, {})[int(length)] = float(ratio)
             elif kind == "long":
-                self.long = fields
+                *self.long_effort, path, ratio = fields
+                self.long[path] = ratio
+            elif kind in ("stack", "code"):
+                {"stack": self.stack, "code": self.code}[kind][fields[0]] = int(fields[1])
             elif kind == "equal":
                 _, path, answers = fields
                 self.known(path)
@@ -48,52 +56,89 @@ def shown(ratio):
     return f"{ratio:.0f}" if ratio >= 10 else f"{ratio:.1f}" if ratio >= 1 else f"{ratio:.2f}"
 
 
-def table(results):
+def rows_of(heads, rows):
+    return "\n".join("| " + " | ".join(map(str, row)) + " |" for row in [heads, ["---"] * len(heads), *rows]).replace("| --- ", "|---").replace("|--- |", "|---|")
+
+
+def table(results, ratios):
+    """A row for each path, and one for what the check costs: a checked call less an unchecked one."""
     columns = results.ranges()
-    head = "| path | " + " | ".join(f"{ranges} free ranges" for ranges in columns) + " |"
-    rule = "|---" * (len(columns) + 1) + "|"
-    rows = [
-        f"| {path} | " + " | ".join(shown(results.ratios[path, ranges]) for ranges in columns) + " |"
-        for path in results.paths
-    ]
-    return "\n".join([head, rule, *rows])
+    rows = [[path, *(shown(ratios[path, ranges]) for ranges in columns)] for path in results.paths]
+    checks = [ratios[CHECKED, ranges] - ratios[UNCHECKED, ranges] for ranges in columns]
+    rows.append(["the exact check: the difference of the two above", *map(shown, checks)])
+    return rows_of(["path", *(f"{ranges} free ranges" for ranges in columns)], ordered(rows))
+
+
+def ordered(rows):
+    """The difference stands below the two."""
+    last = rows.pop()
+    at = next(at for at, row in enumerate(rows) if row[0] == UNCHECKED)
+    return rows[: at + 1] + [last] + rows[at + 1 :]
+
+
+def growth(results):
+    fewest, *_, most = results.ranges()
+    heads = ["path", f"{most} free ranges against {fewest}"]
+    return rows_of(heads, [[path, shown(ratio)] for path, ratio in results.by_growth.items()])
 
 
 def lengths(results):
     """How the time grows with the length of a list."""
-    head = "| calls in a list | " + " | ".join(f"{length:,}" for length in results.by_length) + " |"
-    rule = "|---" * (len(results.by_length) + 1) + "|"
-    row = "| time | " + " | ".join(map(shown, results.by_length.values())) + " |"
-    return "\n".join([head, rule, row])
+    columns = list(next(iter(results.by_length.values())))
+    rows = [[path, *(shown(by_length[length]) for length in columns)] for path, by_length in results.by_length.items()]
+    return rows_of(["calls in a list", *(f"{length:,}" for length in columns)], rows)
 
 
-def long_list(results):
-    calls, ranges, _, ratio = results.long
+def long_lists(results):
+    calls, ranges, _ = results.long_effort
     named = {"1000000": "a million"}.get(calls, calls)
-    return f"{named} calls in one list, about {ranges} free ranges: {ratio} times the Rust's time (wanted: at most 1.5)"
+    said = [f"{path}, {named} calls in one list, about {ranges} free ranges: {ratio} times the Rust's time" for path, ratio in results.long.items()]
+    return "; ".join(said) + " (wanted: at most 1.5)"
+
+
+def sizes(results):
+    stack = rows_of(["path", "bytes of stack, at most"], list(results.stack.items()))
+    code = rows_of(["object of the archive", "bytes of code"], list(results.code.items()))
+    return f"{stack}\n\n{code}"
 
 
 def markdown(results, versions):
     rounds, calls, stretch, slack = results.effort
-    _, ranges_of_lists, rounds_of_the_long, _ = results.long
-    baseline, c_call, lists = results.paths
+    _, ranges_of_lists, rounds_of_the_long = results.long_effort
+    baseline, c_call, plain, lists, checked, unchecked, own_lists = results.paths
     return f"""# Benchmark
 
-Time as a multiple of that of {baseline}, the untouched module, on the same calls in one process, both optimised.
+Time as a multiple of that of {baseline}, the untouched module, on the same calls in one process, both optimised. Mixed calls:
 
-{table(results)}
+{table(results, results.ratios)}
 
 ![The same as bars](benchmark.svg)
+
+The everyday pair, a page allocated and freed at once:
+
+{table(results, results.pairs)}
 
 Measured on: {results.processor}. {versions}.
 
 ## The paths
 
 - **{baseline}** works in place. Of its state it checks that a link it follows is the number of a record, and no more.
-- **{c_call}** is what a program gets from the archive, and from the Rust crate, call by call. It reads the image and checks the
-  whole state, works, and writes the image.
-- **{lists}** is `cinghjalofa_batch`, in the crate `serve`: the same once for a list, and the calls of the list in place between
-  reading and writing. The table has lists of {stretch} calls.
+- **{c_call}** is what a program gets from the archive, and in the Rust crate `LentAllocator`, call by call. It reads the image
+  and checks the whole state, works, and writes the image.
+- **{plain}**: a box without a C library copies a word at a time, where this machine's `memcpy` has vector registers. Only what
+  copies the image or the state can tell the difference.
+- **{lists}** is `cinghjalofa_batch`, in the crate `LentAllocator::serve`: the same once for a list, and the calls of the
+  list in place between reading and writing. The table has lists of {stretch} calls.
+- **{checked}** is `MemoryAllocator`, in C `cinghjalofa_own_allocate` and the like: ten fields in the caller's memory, which each
+  call checks whole, and then works on in place.
+- **{unchecked}** is `UncheckedAllocator`, in C `cinghjalofa_own_allocate_unchecked` and the like: the same without the check.
+- **{own_lists}** is `MemoryAllocator::serve`, in C `cinghjalofa_own_batch`: one check and one copy each way for a list.
+
+## How the time grows
+
+The mixed calls again: what each path takes around so many free ranges, as a multiple of what it takes itself around fewer.
+
+{growth(results)}
 
 ## Lists
 
@@ -101,15 +146,31 @@ Lists of several lengths, about {ranges_of_lists} free ranges, and again as a mu
 
 {lengths(results)}
 
-{long_list(results)}
+{long_lists(results)}
+
+## Stack and code
+
+Of the archive that was measured. The bytes of stack are the most that a call took, refused ones among them, with all records in use
+but one. Each object has all that it calls, so a program links those that it uses: `c_calls.o` has the calls over an image,
+`door_own.o` those on a state of one's own, `door_copies.o` lists of calls on one, and images into and out of it.
+
+{sizes(results)}
+
+## What the figures leave out
+
+- The caller's own work: its lock, and the words of a list, which are written before the clock runs.
+- Cold caches. All calls of a path come one after the other, and the state stays in the processor's nearest memory.
+- An interrupted list: it holds the caller's lock for all of its calls.
+- The module's errors. Its total drifts, and some of its answers are wrong (docs/DIFFERENCES.md); the time for them counts as it is.
+- Machines of another kind. Ratios are of one run on one processor; another one has others, and none is a promise.
 
 ## How it is measured
 
-- `tools/bench` measures again and writes this page. Another processor has other ratios; none is a promise.
-- {calls} calls (takes, reserves and frees, one in a few dozen refused), the number of free ranges never more than {slack} from the
-  one named; the least of {rounds} rounds, taken for each stretch of {stretch} calls and added up; in each round every path plays once.
-  Lists of other lengths are timed in stretches of 10,000 calls, the long one as a whole, the least of {rounds_of_the_long} rounds. Reading,
-  checking and writing the image are in the time; the words of a list are written before the clock runs.
+- `tools/bench` measures again and writes this page.
+- {calls} calls (takes, reserves and frees, one in a few dozen refused; or pairs of a take and a free), the number of free ranges never
+  more than {slack} from the one named; the least of {rounds} rounds, taken for each stretch of {stretch} calls and added up; in each round
+  every path plays once. Lists of other lengths are timed in stretches of 10,000 calls, the long ones as a whole, the least of
+  {rounds_of_the_long} rounds. Reading, checking and writing the image are in the time.
 - Every answer of every round is compared with document 01's: addresses and acceptances of all paths, and the refusal numbers
   of all but the module, whose total drifts (docs/DIFFERENCES.md).
 - The archive is the project's own. The one for Arm is for bare machines (`tools/arm-archive`): no vector register, no

@@ -1,5 +1,6 @@
 /*
- * The memory-range allocator over a byte image that the caller lends: the calls for C99 and C++.
+ * The memory-range allocator for C99 and C++: the calls over a byte image that the caller lends, and, at the end, the same
+ * calls on a state of the caller's own, `struct cinghjalofa_own`, which take a fraction of the time.
  *
  * The image
  *   The whole state lies in CINGHJALOFA_IMAGE_BYTES bytes of the caller's memory. The library keeps nothing between
@@ -30,6 +31,7 @@
 #ifndef CINGHJALOFA_H
 #define CINGHJALOFA_H
 
+#include <stdbool.h>
 #include <stddef.h>
 #include <stdint.h>
 
@@ -125,6 +127,150 @@ int64_t cinghjalofa_free_pages(uint8_t *image, size_t len, uint64_t address, uin
  * after the other, give the same answers and the same image.
  */
 int64_t cinghjalofa_batch(uint8_t *image, size_t len, const uint64_t *calls, size_t words, int64_t *answers, size_t places);
+
+/* ---- A state of one's own */
+
+#define CINGHJALOFA_RECORDS 64
+#define CINGHJALOFA_LISTS 12
+
+/* Two kinds more, of single calls on a state of one's own. */
+#define CINGHJALOFA_ALLOCATE_PAGES 4 /* count, order */
+#define CINGHJALOFA_FREE_PAGES 5     /* address, count */
+
+/*
+ * The whole state, in the caller's memory. cinghjalofa_own_new or cinghjalofa_own_import makes the first one; after that the
+ * calls below alone write it. It may be copied and moved. What is owed of an image is owed of it: room, and no two calls
+ * over it at the same time.
+ *
+ * There are two sets of calls. The answers of both, and the state that they leave, are those of the calls over an image.
+ *   cinghjalofa_own_CALL            asks first whether the state is sound, and answers -2 where it is not
+ *   cinghjalofa_own_CALL_unchecked  does not ask. It is to be called of a sound state alone: one that nothing but these
+ *                                   functions has written. Of another one nothing is promised, not even that the call ends.
+ * So where something else may write over the allocator's memory, the checked calls notice; where nothing can, the unchecked
+ * ones take a fifth of the time.
+ */
+struct cinghjalofa_own {
+    uint64_t total;                             /* the number of free bytes */
+    uint64_t start[CINGHJALOFA_RECORDS];        /* of each record: its first byte, */
+    uint64_t end[CINGHJALOFA_RECORDS];          /* its last byte, */
+    uint64_t enabled[CINGHJALOFA_RECORDS / 8];  /* a byte, 1 where it is in use, */
+    uint16_t heads[CINGHJALOFA_LISTS];          /* (of each size list: its first record) */
+    uint16_t previous[CINGHJALOFA_RECORDS];     /* and its neighbours by address */
+    uint16_t next[CINGHJALOFA_RECORDS];
+    uint16_t list_prev[CINGHJALOFA_RECORDS];    /* and on its size list; 65535 where there is none */
+    uint16_t list_next[CINGHJALOFA_RECORDS];
+    uint16_t first;                             /* the first record by address */
+};
+
+/* The library's functions take the ten fields one by one; each byte of `enabled` is 0 or 1. A call is its kind and three
+ * numbers, as in a list. */
+#define CINGHJALOFA_FIELDS_WRITTEN \
+    uint64_t *total, uint16_t *first, uint16_t *heads, uint64_t *start, uint64_t *end, bool *enabled, uint16_t *previous, \
+    uint16_t *next, uint16_t *list_prev, uint16_t *list_next
+#define CINGHJALOFA_FIELDS_READ \
+    uint64_t total, uint16_t first, const uint16_t *heads, const uint64_t *start, const uint64_t *end, const bool *enabled, \
+    const uint16_t *previous, const uint16_t *next, const uint16_t *list_prev, const uint16_t *list_next
+
+void cinghjalofa_fields_new(CINGHJALOFA_FIELDS_WRITTEN);
+bool cinghjalofa_fields_are_sound(CINGHJALOFA_FIELDS_READ);
+int64_t cinghjalofa_fields_call(CINGHJALOFA_FIELDS_WRITTEN, uint64_t kind, uint64_t x, uint64_t y, uint64_t z);
+int64_t cinghjalofa_fields_call_unchecked(CINGHJALOFA_FIELDS_WRITTEN, uint64_t kind, uint64_t x, uint64_t y, uint64_t z);
+int64_t cinghjalofa_fields_batch(CINGHJALOFA_FIELDS_WRITTEN, const uint64_t *calls, size_t words, int64_t *answers, size_t places);
+int64_t cinghjalofa_fields_import(CINGHJALOFA_FIELDS_WRITTEN, const uint8_t *image, size_t len);
+int64_t cinghjalofa_fields_export(CINGHJALOFA_FIELDS_READ, uint8_t *image, size_t len);
+
+#define CINGHJALOFA_LENT(own) \
+    &(own)->total, &(own)->first, (own)->heads, (own)->start, (own)->end, (bool *)(void *)(own)->enabled, (own)->previous, \
+    (own)->next, (own)->list_prev, (own)->list_next
+#define CINGHJALOFA_SHOWN(own) \
+    (own)->total, (own)->first, (own)->heads, (own)->start, (own)->end, (const bool *)(const void *)(own)->enabled, \
+    (own)->previous, (own)->next, (own)->list_prev, (own)->list_next
+
+/* Each byte of `enabled` is 0 or 1, as the library takes it for granted. */
+static inline bool cinghjalofa_own_has_bits(const struct cinghjalofa_own *own) {
+    uint64_t all = 0;
+    for (int i = 0; i < CINGHJALOFA_RECORDS / 8; i++) all |= own->enabled[i];
+    return (all & ~UINT64_C(0x0101010101010101)) == 0;
+}
+
+static inline int64_t cinghjalofa_own_call(struct cinghjalofa_own *own, uint64_t kind, uint64_t x, uint64_t y, uint64_t z) {
+    if (!cinghjalofa_own_has_bits(own)) return CINGHJALOFA_INVALID_ENTRY;
+    return cinghjalofa_fields_call(CINGHJALOFA_LENT(own), kind, x, y, z);
+}
+
+static inline int64_t cinghjalofa_own_call_unchecked(struct cinghjalofa_own *own, uint64_t kind, uint64_t x, uint64_t y, uint64_t z) {
+    return cinghjalofa_fields_call_unchecked(CINGHJALOFA_LENT(own), kind, x, y, z);
+}
+
+/* The empty allocator, over whatever is there. */
+static inline void cinghjalofa_own_new(struct cinghjalofa_own *own) {
+    for (int i = 0; i < CINGHJALOFA_RECORDS / 8; i++) own->enabled[i] = 0;
+    cinghjalofa_fields_new(CINGHJALOFA_LENT(own));
+}
+
+/* Whether the state is sound. */
+static inline bool cinghjalofa_own_is_sound(const struct cinghjalofa_own *own) {
+    return cinghjalofa_own_has_bits(own) && cinghjalofa_fields_are_sound(CINGHJALOFA_SHOWN(own));
+}
+
+/* The five calls, with the refusals that stand above; -2 is the answer to a state that is not sound. */
+static inline int64_t cinghjalofa_own_allocate(struct cinghjalofa_own *own, uint64_t size, uint64_t order) {
+    return cinghjalofa_own_call(own, CINGHJALOFA_ALLOCATE, size, order, 0);
+}
+
+static inline int64_t cinghjalofa_own_reserve_memory(struct cinghjalofa_own *own, uint64_t start, uint64_t size, uint64_t order) {
+    return cinghjalofa_own_call(own, CINGHJALOFA_RESERVE, start, size, order);
+}
+
+static inline int64_t cinghjalofa_own_free(struct cinghjalofa_own *own, uint64_t start, uint64_t size) {
+    return cinghjalofa_own_call(own, CINGHJALOFA_FREE, start, size, 0);
+}
+
+static inline int64_t cinghjalofa_own_allocate_pages(struct cinghjalofa_own *own, uint64_t count, uint64_t order) {
+    return cinghjalofa_own_call(own, CINGHJALOFA_ALLOCATE_PAGES, count, order, 0);
+}
+
+static inline int64_t cinghjalofa_own_free_pages(struct cinghjalofa_own *own, uint64_t address, uint64_t count) {
+    return cinghjalofa_own_call(own, CINGHJALOFA_FREE_PAGES, address, count, 0);
+}
+
+/* The same, of a sound state alone. */
+static inline int64_t cinghjalofa_own_allocate_unchecked(struct cinghjalofa_own *own, uint64_t size, uint64_t order) {
+    return cinghjalofa_own_call_unchecked(own, CINGHJALOFA_ALLOCATE, size, order, 0);
+}
+
+static inline int64_t cinghjalofa_own_reserve_memory_unchecked(struct cinghjalofa_own *own, uint64_t start, uint64_t size, uint64_t order) {
+    return cinghjalofa_own_call_unchecked(own, CINGHJALOFA_RESERVE, start, size, order);
+}
+
+static inline int64_t cinghjalofa_own_free_unchecked(struct cinghjalofa_own *own, uint64_t start, uint64_t size) {
+    return cinghjalofa_own_call_unchecked(own, CINGHJALOFA_FREE, start, size, 0);
+}
+
+static inline int64_t cinghjalofa_own_allocate_pages_unchecked(struct cinghjalofa_own *own, uint64_t count, uint64_t order) {
+    return cinghjalofa_own_call_unchecked(own, CINGHJALOFA_ALLOCATE_PAGES, count, order, 0);
+}
+
+static inline int64_t cinghjalofa_own_free_pages_unchecked(struct cinghjalofa_own *own, uint64_t address, uint64_t count) {
+    return cinghjalofa_own_call_unchecked(own, CINGHJALOFA_FREE_PAGES, address, count, 0);
+}
+
+/* A list of calls, as cinghjalofa_batch serves it; the state is checked once. */
+static inline int64_t cinghjalofa_own_batch(struct cinghjalofa_own *own, const uint64_t *calls, size_t words, int64_t *answers, size_t places) {
+    if (!cinghjalofa_own_has_bits(own)) return CINGHJALOFA_INVALID_ENTRY;
+    return cinghjalofa_fields_batch(CINGHJALOFA_LENT(own), calls, words, answers, places);
+}
+
+/* The state of an image, and 0; -2, and nothing changed, where the bytes are no image of a sound allocator. */
+static inline int64_t cinghjalofa_own_import(struct cinghjalofa_own *own, const uint8_t *image, size_t len) {
+    return cinghjalofa_fields_import(CINGHJALOFA_LENT(own), image, len);
+}
+
+/* Writes the image of the state, and answers 0; -2, and no byte changed, where it is not sound, or `len` is another. */
+static inline int64_t cinghjalofa_own_export(const struct cinghjalofa_own *own, uint8_t *image, size_t len) {
+    if (!cinghjalofa_own_has_bits(own)) return CINGHJALOFA_INVALID_ENTRY;
+    return cinghjalofa_fields_export(CINGHJALOFA_SHOWN(own), image, len);
+}
 
 #ifdef __cplusplus
 }

@@ -1,4 +1,5 @@
-// The memory-range allocator over a byte image that the caller lends: the calls for Rust, `no_std`, edition 2021.
+// The memory-range allocator over a byte image that the caller lends, and over a state of the caller's own: the calls for Rust,
+// `no_std`, edition 2021.
 // Take the file in as a module, by `#[path = ".."] mod cinghjalofa;` or `mod cinghjalofa { include!(".."); }`, and link
 // with the static library.
 //
@@ -45,6 +46,17 @@ pub const ALLOCATE: u64 = 2;
 /// and a reserve a start, a size and an order.
 pub const RESERVE: u64 = 3;
 
+/// Two kinds more, of single calls on a state of one's own: pages, by their count and an order,
+pub const ALLOCATE_PAGES: u64 = 4;
+/// and pages that become free, by an address and their count.
+pub const FREE_PAGES: u64 = 5;
+
+/// The records, and the size lists.
+pub const RECORDS: usize = 64;
+pub const LISTS: usize = 12;
+/// What a link is where there is none.
+pub const NO_RECORD: u16 = u16::MAX;
+
 /// The words of a call in a list: its kind, then its numbers as typed. A word that a call does not use is not looked at.
 pub const CALL_WORDS: usize = 4;
 
@@ -65,6 +77,98 @@ extern "C" {
         words: usize,
         answers: *mut i64,
         places: usize,
+    ) -> i64;
+}
+
+// The ten fields of a state of one's own, lent one by one; `enabled` points to RECORDS bytes, each of them 0 or 1. `Own` keeps them.
+extern "C" {
+    fn cinghjalofa_fields_are_sound(
+        total: u64,
+        first: u16,
+        heads: &[u16; LISTS],
+        start: &[u64; RECORDS],
+        end: &[u64; RECORDS],
+        enabled: *const bool,
+        previous: &[u16; RECORDS],
+        next: &[u16; RECORDS],
+        list_prev: &[u16; RECORDS],
+        list_next: &[u16; RECORDS],
+    ) -> bool;
+    fn cinghjalofa_fields_call(
+        total: &mut u64,
+        first: &mut u16,
+        heads: &mut [u16; LISTS],
+        start: &mut [u64; RECORDS],
+        end: &mut [u64; RECORDS],
+        enabled: *mut bool,
+        previous: &mut [u16; RECORDS],
+        next: &mut [u16; RECORDS],
+        list_prev: &mut [u16; RECORDS],
+        list_next: &mut [u16; RECORDS],
+        kind: u64,
+        x: u64,
+        y: u64,
+        z: u64,
+    ) -> i64;
+    fn cinghjalofa_fields_call_unchecked(
+        total: &mut u64,
+        first: &mut u16,
+        heads: &mut [u16; LISTS],
+        start: &mut [u64; RECORDS],
+        end: &mut [u64; RECORDS],
+        enabled: *mut bool,
+        previous: &mut [u16; RECORDS],
+        next: &mut [u16; RECORDS],
+        list_prev: &mut [u16; RECORDS],
+        list_next: &mut [u16; RECORDS],
+        kind: u64,
+        x: u64,
+        y: u64,
+        z: u64,
+    ) -> i64;
+    fn cinghjalofa_fields_batch(
+        total: &mut u64,
+        first: &mut u16,
+        heads: &mut [u16; LISTS],
+        start: &mut [u64; RECORDS],
+        end: &mut [u64; RECORDS],
+        enabled: *mut bool,
+        previous: &mut [u16; RECORDS],
+        next: &mut [u16; RECORDS],
+        list_prev: &mut [u16; RECORDS],
+        list_next: &mut [u16; RECORDS],
+        calls: *const u64,
+        words: usize,
+        answers: *mut i64,
+        places: usize,
+    ) -> i64;
+    fn cinghjalofa_fields_import(
+        total: &mut u64,
+        first: &mut u16,
+        heads: &mut [u16; LISTS],
+        start: &mut [u64; RECORDS],
+        end: &mut [u64; RECORDS],
+        enabled: *mut bool,
+        previous: &mut [u16; RECORDS],
+        next: &mut [u16; RECORDS],
+        list_prev: &mut [u16; RECORDS],
+        list_next: &mut [u16; RECORDS],
+        image: *const u8,
+        len: usize,
+    ) -> i64;
+    fn cinghjalofa_fields_export(
+        total: u64,
+        first: u16,
+        heads: &[u16; LISTS],
+        start: &[u64; RECORDS],
+        end: &[u64; RECORDS],
+        enabled: *const bool,
+        previous: &[u16; RECORDS],
+        next: &[u16; RECORDS],
+        list_prev: &[u16; RECORDS],
+        list_next: &[u16; RECORDS],
+        image: *mut u8,
+        len: usize,
     ) -> i64;
 }
 
@@ -137,4 +241,148 @@ pub fn free_pages(image: &mut [u8], address: u64, count: u64) -> i64 {
 pub fn batch(image: &mut [u8], calls: &[u64], answers: &mut [i64]) -> i64 {
     let (len, words, places) = (image.len(), calls.len(), answers.len());
     unsafe { cinghjalofa_batch(image.as_mut_ptr(), len, calls.as_ptr(), words, answers.as_mut_ptr(), places) }
+}
+
+macro_rules! fields_mut {
+    ($call:ident($own:ident $(, $more:expr)*)) => {
+        $call(
+            &mut $own.total,
+            &mut $own.first,
+            &mut $own.heads,
+            &mut $own.start,
+            &mut $own.end,
+            $own.enabled.as_mut_ptr().cast::<bool>(),
+            &mut $own.previous,
+            &mut $own.next,
+            &mut $own.list_prev,
+            &mut $own.list_next,
+            $($more),*
+        )
+    };
+}
+
+macro_rules! fields {
+    ($call:ident($own:ident $(, $more:expr)*)) => {
+        $call(
+            $own.total,
+            $own.first,
+            &$own.heads,
+            &$own.start,
+            &$own.end,
+            $own.enabled.as_ptr().cast::<bool>(),
+            &$own.previous,
+            &$own.next,
+            &$own.list_prev,
+            &$own.list_next,
+            $($more),*
+        )
+    };
+}
+
+/// A state of one's own: no bytes to read or write at a call. A call is its kind and three numbers, as in a list; those that
+/// it has not are not looked at. Nobody but the calls below writes the fields.
+#[repr(C)]
+pub struct Own {
+    total: u64,
+    start: [u64; RECORDS],
+    end: [u64; RECORDS],
+    /// A byte for each record.
+    enabled: [u64; RECORDS / 8],
+    heads: [u16; LISTS],
+    previous: [u16; RECORDS],
+    next: [u16; RECORDS],
+    list_prev: [u16; RECORDS],
+    list_next: [u16; RECORDS],
+    first: u16,
+}
+
+impl Own {
+    /// The empty allocator.
+    pub const fn new() -> Self {
+        Self {
+            total: 0,
+            start: [0; RECORDS],
+            end: [0; RECORDS],
+            enabled: [0; RECORDS / 8],
+            heads: [NO_RECORD; LISTS],
+            previous: [NO_RECORD; RECORDS],
+            next: [NO_RECORD; RECORDS],
+            list_prev: [NO_RECORD; RECORDS],
+            list_next: [NO_RECORD; RECORDS],
+            first: NO_RECORD,
+        }
+    }
+
+    /// A call, checked: -2, and nothing changed, where the fields are no sound state.
+    pub fn call(&mut self, kind: u64, x: u64, y: u64, z: u64) -> i64 {
+        if !self.has_bits() {
+            return INVALID_ENTRY;
+        }
+        // Safety: the fields are borrowed for the whole call, and the bytes of `enabled` are 0 or 1; so in each function below.
+        unsafe { fields_mut!(cinghjalofa_fields_call(self, kind, x, y, z)) }
+    }
+
+    /// A call, not checked: the answer, and the fields, are those of `call` where the fields are a sound state, and nothing is
+    /// promised where they are not. They are one as long as nothing but these functions has written them.
+    pub fn call_unchecked(&mut self, kind: u64, x: u64, y: u64, z: u64) -> i64 {
+        // Safety: no other code can write the fields, so that the bytes of `enabled` are 0 or 1, and the state is sound.
+        unsafe { fields_mut!(cinghjalofa_fields_call_unchecked(self, kind, x, y, z)) }
+    }
+
+    /// A list of calls, as `batch` serves it; the state is checked once.
+    pub fn batch(&mut self, calls: &[u64], answers: &mut [i64]) -> i64 {
+        if !self.has_bits() {
+            return INVALID_ENTRY;
+        }
+        let (words, places) = (calls.len(), answers.len());
+        unsafe { fields_mut!(cinghjalofa_fields_batch(self, calls.as_ptr(), words, answers.as_mut_ptr(), places)) }
+    }
+
+    /// Whether the fields are a sound state.
+    pub fn is_sound(&self) -> bool {
+        self.has_bits() && unsafe { fields!(cinghjalofa_fields_are_sound(self)) }
+    }
+
+    /// The state of an image; -2, and nothing changed, where the bytes are no image of a sound allocator.
+    pub fn import(&mut self, image: &[u8]) -> i64 {
+        if !self.has_bits() {
+            self.enabled = [0; RECORDS / 8];
+        }
+        unsafe { fields_mut!(cinghjalofa_fields_import(self, image.as_ptr(), image.len())) }
+    }
+
+    /// The image of the state; -2, and no byte changed, where it is not sound, or the slice is not `IMAGE_BYTES` long.
+    pub fn export(&self, image: &mut [u8]) -> i64 {
+        if !self.has_bits() {
+            return INVALID_ENTRY;
+        }
+        unsafe { fields!(cinghjalofa_fields_export(self, image.as_mut_ptr(), image.len())) }
+    }
+
+    /// The stored total.
+    pub fn total(&self) -> u64 {
+        self.total
+    }
+
+    /// The record of the first free range by address; `NO_RECORD` where there is none.
+    pub fn first(&self) -> u16 {
+        self.first
+    }
+
+    /// First and last byte of a record, and the record of the next range by address.
+    pub fn record(&self, number: u16) -> Option<(u64, u64, u16)> {
+        let at = usize::from(number);
+        Some((*self.start.get(at)?, *self.end.get(at)?, *self.next.get(at)?))
+    }
+
+    /// Each byte of `enabled` is 0 or 1, as the library takes it for granted.
+    fn has_bits(&self) -> bool {
+        self.enabled.iter().fold(0, |all, bytes| all | bytes) & !0x0101_0101_0101_0101 == 0
+    }
+}
+
+impl Default for Own {
+    fn default() -> Self {
+        Self::new()
+    }
 }

@@ -6,6 +6,7 @@
 #   compile CRATE MACHINE TEXT OBJECT [WORD..]
 #                                 compiles such a text by the words kept for CRATE and those named, for x86_64 or aarch64
 #   pack ARCHIVE OBJECT..         makes an archive
+#   join ARCHIVE CRATE..          makes an archive of the kit's for x86-64 of these crates
 # $work is a folder that is gone at the end.
 #
 # Rattle compiles for x86-64 alone. For Arm the module's target is replaced, and the kit's same clang compiles it for bare
@@ -41,6 +42,7 @@ END
 # A kit of links to the real one, with the keeping clang in it: `rt` itself then says how a crate is compiled.
 make_keeping_kit() {
   local here
+  [ ! -d "$work/kit" ] || return 0
   here=on/$(uname -m)
   link_all "$kit" on "$work/kit"
   link_all "$kit/$here" toolchain "$work/kit/$here"
@@ -53,6 +55,7 @@ make_keeping_kit() {
 keep_module() {
   local kept=target/module/$1
   make_keeping_kit
+  rm -f "$work/module.bc"
   say "$1 and the crates below it are proved first, which takes some minutes the first time"
   RATTLE_HOME=$work/kit rt staticlib "$1" </dev/null 2>&1 | tee "$work/said" | progress
   [ "${PIPESTATUS[0]}" -eq 0 ] || { tell "$(cat "$work/said")"; fail "$1 could not be made: the words of rt stand above"; }
@@ -91,6 +94,17 @@ pack() {
   mkdir -p "${1%/*}"
   rm -f "$1"
   "${clang%clang}llvm-ar" rcsD "$@"
+}
+
+join() {
+  local each archive=$1
+  shift
+  [ $# -gt 1 ] || return 0 # it is that crate's own
+  mkdir -p "$work/joined"
+  for each in "$@"; do
+    (cd "$work/joined" && "${clang%clang}llvm-ar" x "$root/target/staticlib/lib$each.a") || fail "the kit's archive of $each could not be taken apart"
+  done
+  pack "$archive" "$work/joined"/*.o
 }
 
 kit=$(tools/kit-folder)

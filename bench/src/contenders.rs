@@ -3,7 +3,17 @@
 
 use crate::call::{Answer, Call};
 use crate::library;
+use crate::plain;
 use crate::workload::Stretch;
+
+// What the report calls them.
+const RUST: &str = "MiniVisor's Rust";
+const OVER_IMAGE: &str = "C call over the image";
+const OVER_IMAGE_PLAIN: &str = "the same, plain memcpy";
+const LISTS_OVER_IMAGE: &str = "a list at a time over the image";
+const CHECKED: &str = "own state, checked";
+const UNCHECKED: &str = "own state, unchecked";
+const LISTS_ON_OWN: &str = "a list at a time on an own state";
 
 pub trait Contender {
     fn name(&self) -> &'static str;
@@ -20,7 +30,7 @@ pub trait Contender {
 
 /// `name: an allocator with the module's calls, numbers_drift, what the report calls it`
 macro_rules! contenders {
-    ($($name:ident: $allocator:ty, $drift:literal, $title:literal;)*) => {
+    ($($name:ident: $allocator:ty, $drift:literal, $title:expr;)*) => {
         $(
             struct $name($allocator);
 
@@ -65,27 +75,37 @@ macro_rules! play_one_by_one {
 
 // The module adds the size of a free twice, so that its total drifts, and with it its refusals.
 contenders! {
-    Rust: original::memory_allocator::MemoryAllocator, true, "MiniVisor's Rust";
-    CCall: cinghjalofa::MemoryAllocator, false, "C call over the image";
+    Rust: original::memory_allocator::MemoryAllocator, true, RUST;
+    Checked: cinghjalofa::MemoryAllocator, false, CHECKED;
+    Unchecked: cinghjalofa::UncheckedAllocator, false, UNCHECKED;
 }
 
-/// The C call that serves a list: lists of so many calls, the last of a stretch with what is left.
-struct Lists {
+/// The calls over a lent image: those of the archive, or the same with a plain `memcpy` (plain.rs).
+struct OverImage {
+    title: &'static str,
     image: [u8; library::IMAGE_BYTES],
-    length: usize,
+    calls: &'static Calls,
 }
 
-impl Lists {
-    fn of(length: usize) -> Self {
-        let mut image = [0; library::IMAGE_BYTES];
-        library::new(&mut image);
-        Self { image, length }
+pub struct Calls {
+    pub new: fn(&mut [u8]) -> i64,
+    pub allocate: fn(&mut [u8], u64, u64) -> i64,
+    pub free: fn(&mut [u8], u64, u64) -> i64,
+    pub reserve: fn(&mut [u8], u64, u64, u64) -> i64,
+}
+
+static OF_THE_ARCHIVE: Calls =
+    Calls { new: library::new, allocate: library::allocate, free: library::free, reserve: library::reserve_memory };
+
+impl OverImage {
+    fn by(title: &'static str, calls: &'static Calls) -> Box<dyn Contender> {
+        Box::new(Self { title, image: [0; library::IMAGE_BYTES], calls })
     }
 }
 
-impl Contender for Lists {
+impl Contender for OverImage {
     fn name(&self) -> &'static str {
-        "a list at a time over the image"
+        self.title
     }
 
     fn numbers_drift(&self) -> bool {
@@ -93,13 +113,82 @@ impl Contender for Lists {
     }
 
     fn reset(&mut self) {
-        library::new(&mut self.image);
+        (self.calls.new)(&mut self.image);
+    }
+
+    fn play(&mut self, stretch: Stretch, answers: &mut [i64]) {
+        for (call, answer) in stretch.calls.iter().zip(answers) {
+            *answer = match *call {
+                Call::Allocate { size, order } => (self.calls.allocate)(&mut self.image, size, order),
+                Call::Free { start, size } => (self.calls.free)(&mut self.image, start, size),
+                Call::Reserve { start, size, order } => (self.calls.reserve)(&mut self.image, start, size, order),
+            };
+        }
+    }
+}
+
+/// What serves a list of calls in words.
+pub trait Lister {
+    const TITLE: &'static str;
+    fn new() -> Self;
+    fn serve(&mut self, words: &[u64], answers: &mut [i64]) -> i64;
+}
+
+impl Lister for [u8; library::IMAGE_BYTES] {
+    const TITLE: &'static str = LISTS_OVER_IMAGE;
+
+    fn new() -> Self {
+        let mut image = [0; library::IMAGE_BYTES];
+        library::new(&mut image);
+        image
+    }
+
+    fn serve(&mut self, words: &[u64], answers: &mut [i64]) -> i64 {
+        library::batch(self, words, answers)
+    }
+}
+
+impl Lister for library::Own {
+    const TITLE: &'static str = LISTS_ON_OWN;
+
+    fn new() -> Self {
+        library::Own::new()
+    }
+
+    fn serve(&mut self, words: &[u64], answers: &mut [i64]) -> i64 {
+        self.batch(words, answers)
+    }
+}
+
+/// Lists of so many calls, the last of a stretch with what is left.
+struct Lists<L> {
+    lister: L,
+    length: usize,
+}
+
+impl<L: Lister + 'static> Lists<L> {
+    fn of(length: usize) -> Box<dyn Contender> {
+        Box::new(Self { lister: L::new(), length })
+    }
+}
+
+impl<L: Lister> Contender for Lists<L> {
+    fn name(&self) -> &'static str {
+        L::TITLE
+    }
+
+    fn numbers_drift(&self) -> bool {
+        false
+    }
+
+    fn reset(&mut self) {
+        self.lister = L::new();
     }
 
     fn play(&mut self, stretch: Stretch, answers: &mut [i64]) {
         let lists = stretch.words.chunks(self.length.saturating_mul(library::CALL_WORDS));
         for (words, answers) in lists.zip(answers.chunks_mut(self.length)) {
-            if library::batch(&mut self.image, words, answers) < 0 {
+            if self.lister.serve(words, answers) < 0 {
                 answers.fill(i64::MIN); // no call is answered so
             }
         }
@@ -108,13 +197,22 @@ impl Contender for Lists {
 
 /// The Rust first, with which the others are compared.
 pub fn all() -> Vec<Box<dyn Contender>> {
-    vec![rust(), Box::new(CCall(cinghjalofa::MemoryAllocator::new())), Box::new(Lists::of(usize::MAX))]
+    vec![
+        rust(),
+        OverImage::by(OVER_IMAGE, &OF_THE_ARCHIVE),
+        OverImage::by(OVER_IMAGE_PLAIN, &plain::CALLS),
+        Lists::<[u8; library::IMAGE_BYTES]>::of(usize::MAX),
+        Box::new(Checked(cinghjalofa::MemoryAllocator::new())),
+        Box::new(Unchecked(cinghjalofa::UncheckedAllocator::new())),
+        Lists::<library::Own>::of(usize::MAX),
+    ]
 }
 
-/// The Rust, and lists of so many calls.
+/// The Rust, and lists of so many calls: over the image, then on a state of one's own.
 pub fn with_lists(lengths: &[usize]) -> Vec<Box<dyn Contender>> {
-    let lists = lengths.iter().map(|&length| Box::new(Lists::of(length)) as Box<dyn Contender>);
-    std::iter::once(rust()).chain(lists).collect()
+    let over_image = lengths.iter().map(|&length| Lists::<[u8; library::IMAGE_BYTES]>::of(length));
+    let on_own = lengths.iter().map(|&length| Lists::<library::Own>::of(length));
+    std::iter::once(rust()).chain(over_image).chain(on_own).collect()
 }
 
 fn rust() -> Box<dyn Contender> {

@@ -1,14 +1,17 @@
 //! usage: bench [--smoke]
 //! Plays the same calls by every contender and compares every answer. Prints lines of fields split by tabs:
 //! `processor`, its name; `effort`, rounds, calls, calls timed together and how far the number of ranges wanders; then for each
-//! number of ranges and each contender `ratio`, its time as a multiple of the Rust's; `length`, the same for lists of so many
-//! calls; and `long`, for one list of so many calls, with its free ranges and the rounds.
+//! number of ranges and each contender `ratio`, its time as a multiple of the Rust's on mixed calls, and `pair`, on pages that are
+//! allocated and freed at once; for each contender `growth`, its time for mixed calls around the most ranges as a multiple of that
+//! around the fewest; `length`, for lists of so many calls; and `long`, for one list of so many calls, with its free ranges and
+//! the rounds.
 //! With --smoke one short round, and for each number of ranges and each contender `equal`, how many answers were compared.
 //! Under emulation nothing is measured.
 
 mod contenders;
 mod machine;
 mod measure;
+mod plain;
 mod workload;
 
 // The calls, and the model that keeps them inside the domain where the Rust is the judge, are the oracle's.
@@ -69,10 +72,11 @@ fn main() -> ExitCode {
 
 fn compare_all() -> Result<(), String> {
     for ranges in FREE_RANGES {
-        let workload = Workload::around(ranges, SMOKE.calls);
-        let mut contenders = contenders::all();
-        measure::least_times(&workload, &mut contenders, &SMOKE)?;
-        print_equal(ranges, &contenders, &SMOKE);
+        for workload in [Workload::around(ranges, SMOKE.calls), Workload::pairs(ranges, SMOKE.calls)] {
+            let mut contenders = contenders::all();
+            measure::least_times(&workload, &mut contenders, &SMOKE)?;
+            print_equal(ranges, &contenders, &SMOKE);
+        }
     }
     for (lengths, effort) in [(&LENGTHS[..], &LENGTHS_SMOKE), (&[LONG_SMOKE.calls], &LONG_SMOKE)] {
         let mut contenders = contenders::with_lists(lengths);
@@ -95,24 +99,44 @@ fn measure_all() -> Result<(), String> {
     }
     println!("processor\t{}", machine::processor());
     println!("effort\t{}\t{}\t{}\t{}", FULL.rounds, FULL.calls, FULL.stretch, workload::SLACK);
+    let mut of_fewest = Vec::new();
+    let mut of_most = Vec::new();
     for ranges in FREE_RANGES {
-        let mut contenders = contenders::all();
-        let ratios = ratios(ranges, &mut contenders, &FULL)?;
-        for (contender, ratio) in contenders.iter().zip(ratios) {
-            println!("ratio\t{ranges}\t{}\t{ratio:.2}", contender.name());
+        of_most = times(&Workload::around(ranges, FULL.calls), &mut contenders::all(), &FULL)?;
+        print_ratios("ratio", ranges, &of_most);
+        if of_fewest.is_empty() {
+            of_fewest.clone_from(&of_most);
         }
     }
-    let by_length = ratios(RANGES_OF_LISTS, &mut contenders::with_lists(&LENGTHS), &LENGTHS_FULL)?;
-    for (length, ratio) in LENGTHS.iter().zip(&by_length[1..]) {
-        println!("length\t{length}\t{ratio:.2}");
+    for ranges in FREE_RANGES {
+        print_ratios("pair", ranges, &times(&Workload::pairs(ranges, FULL.calls), &mut contenders::all(), &FULL)?);
     }
-    let of_the_long_one = ratios(RANGES_OF_LISTS, &mut contenders::with_lists(&[LONG_FULL.calls]), &LONG_FULL)?;
-    println!("long\t{}\t{RANGES_OF_LISTS}\t{}\t{:.2}", LONG_FULL.calls, LONG_FULL.rounds, of_the_long_one[1]);
+    for ((contender, fewest), most) in contenders::all().iter().zip(of_fewest).zip(of_most) {
+        println!("growth\t{}\t{:.2}", contender.name(), most / fewest);
+    }
+    measure_lists(&LENGTHS, &LENGTHS_FULL, |length, name, ratio| println!("length\t{length}\t{name}\t{ratio:.2}"))?;
+    measure_lists(&[LONG_FULL.calls], &LONG_FULL, |length, name, ratio| {
+        println!("long\t{length}\t{RANGES_OF_LISTS}\t{}\t{name}\t{ratio:.2}", LONG_FULL.rounds);
+    })
+}
+
+fn print_ratios(kind: &str, ranges: usize, times: &[f64]) {
+    for (contender, time) in contenders::all().iter().zip(times) {
+        println!("{kind}\t{ranges}\t{}\t{:.2}", contender.name(), time / times[0]);
+    }
+}
+
+fn measure_lists(lengths: &[usize], effort: &Effort, print: impl Fn(usize, &str, f64)) -> Result<(), String> {
+    let mut contenders = contenders::with_lists(lengths);
+    let times = times(&Workload::around(RANGES_OF_LISTS, effort.calls), &mut contenders, effort)?;
+    for ((contender, time), length) in contenders.iter().zip(&times).skip(1).zip(lengths.iter().cycle()) {
+        print(*length, contender.name(), time / times[0]);
+    }
     Ok(())
 }
 
-/// The time of each contender as a multiple of the first one's.
-fn ratios(ranges: usize, contenders: &mut [Box<dyn Contender>], effort: &Effort) -> Result<Vec<f64>, String> {
-    let times = measure::least_times(&Workload::around(ranges, effort.calls), contenders, effort)?;
-    Ok(times.iter().map(|time| time.as_secs_f64() / times[0].as_secs_f64()).collect())
+/// The time of each contender, in seconds.
+fn times(workload: &Workload, contenders: &mut [Box<dyn Contender>], effort: &Effort) -> Result<Vec<f64>, String> {
+    let times = measure::least_times(workload, contenders, effort)?;
+    Ok(times.iter().map(std::time::Duration::as_secs_f64).collect())
 }

@@ -7,6 +7,7 @@ use crate::library::{ALLOCATE, CALL_WORDS, FREE, RESERVE};
 use crate::rng::Rng;
 
 const PAGE: u64 = 4096;
+const PAGE_ORDER: u64 = 12;
 const CEILING: u64 = 1 << 30;
 const MOST_PAGES: u64 = 16;
 /// How far from the wanted number of ranges the history may wander.
@@ -70,9 +71,24 @@ struct Builder {
 }
 
 impl Workload {
+    /// The everyday pair: a page allocated, and freed at once.
+    pub fn pairs(ranges: usize, length: usize) -> Workload {
+        let mut builder = Builder::around(ranges);
+        let opening = History::of(builder.opening());
+        let (mut calls, mut answers) = (Vec::new(), Vec::new());
+        while calls.len() + 2 <= length {
+            let taken = Call::Allocate { size: PAGE, order: PAGE_ORDER };
+            let answer = builder.play(taken);
+            let Answer::Accepted(start) = answer else { unreachable!("a page was refused: {answer:?}") };
+            let freed = Call::Free { start, size: PAGE };
+            answers.extend([as_number(answer), as_number(builder.play(freed))]);
+            calls.extend([taken, freed]);
+        }
+        Workload { opening, history: History::of(calls), answers }
+    }
+
     pub fn around(ranges: usize, length: usize) -> Workload {
-        let rng = Rng::for_history(1, ranges as u64);
-        let mut builder = Builder { wanted: ranges, rng, model: Model::new(), held: Vec::new() };
+        let mut builder = Builder::around(ranges);
         let opening = History::of(builder.opening());
         let (mut calls, mut answers) = (Vec::new(), Vec::new());
         while calls.len() < length {
@@ -85,6 +101,10 @@ impl Workload {
 }
 
 impl Builder {
+    fn around(ranges: usize) -> Builder {
+        Builder { wanted: ranges, rng: Rng::for_history(1, ranges as u64), model: Model::new(), held: Vec::new() }
+    }
+
     /// As many ranges of 16 to 31 pages as are wanted, far apart.
     fn opening(&mut self) -> Vec<Call> {
         let stride = CEILING / self.wanted as u64 / PAGE * PAGE;

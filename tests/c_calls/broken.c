@@ -10,6 +10,8 @@
 
 #define IMAGE_BYTES CINGHJALOFA_IMAGE_BYTES
 #define RECORDS 64
+#define LISTS 12
+#define NONE 255
 #define GO_ON 1 /* no refusal */
 
 int64_t __real_cinghjalofa_new(uint8_t *image, size_t len);
@@ -81,6 +83,49 @@ static int reaches_top(uint8_t *image)
     return 0;
 }
 
+static void exchange_link(uint8_t *link)
+{
+    if (*link < 2)
+        *link = (uint8_t)(1 - *link);
+}
+
+/* The same free ranges, in the same orders: only the numbers of the first two records are the other way round. */
+static void exchange_records(uint8_t *image)
+{
+    uint8_t first[21];
+
+    for (int i = 13; i < 26; i++)
+        exchange_link(image + i);
+    for (int k = 0; k < RECORDS; k++)
+        for (int i = 17; i < 21; i++)
+            exchange_link(record_at(image, k) + i);
+    memcpy(first, record_at(image, 0), 21);
+    memcpy(record_at(image, 0), record_at(image, 1), 21);
+    memcpy(record_at(image, 1), first, 21);
+}
+
+static uint64_t size_of(const uint8_t *record)
+{
+    return number_at(record + 8) - number_at(record);
+}
+
+/* Where the first two of a size list are equal, the second comes first. */
+static void exchange_equals(uint8_t *image, uint8_t *head)
+{
+    uint8_t *one = *head == NONE ? NULL : record_at(image, *head);
+    uint8_t *other = !one || one[20] == NONE ? NULL : record_at(image, one[20]);
+
+    if (!other || size_of(one) != size_of(other))
+        return;
+    other[19] = NONE;
+    one[19] = one[20];
+    one[20] = other[20];
+    other[20] = *head;
+    *head = one[19];
+    if (one[20] != NONE)
+        record_at(image, one[20])[19] = other[20];
+}
+
 /* Before any real call: a refusal of the broken port's own, or GO_ON. */
 static int64_t begin(uint8_t *image, size_t *len)
 {
@@ -128,6 +173,10 @@ static int64_t end(uint8_t *image, size_t len, int64_t answer)
         image[IMAGE_BYTES - 1] ^= 1;
     if (is_breakage("writes-behind") && answer >= 0)
         image[IMAGE_BYTES] ^= 1;
+    if (is_breakage("other-records") && answer >= 0)
+        exchange_records(image);
+    for (int list = 0; is_breakage("older-first") && answer >= 0 && list < LISTS; list++)
+        exchange_equals(image, image + 14 + list);
     return answer;
 }
 

@@ -21,7 +21,7 @@ def build_original(machine, root, sources):
 def build_program(machine, name, original=None, has_port=True):
     """driver/NAME.rs with the machine's archive as the port and the crate `original`, as far as they are wanted."""
     words = ["--crate-name", name, DRIVER / f"{name}.rs"]
-    inputs = sorted(DRIVER.glob("*.rs"))
+    inputs = [DRIVER.parents[1] / "cases.rs", *sorted(DRIVER.glob("*.rs"))]
     if has_port:
         linked = folder(machine) / "libport.a"
         shutil.copyfile(existing(machine.archive), linked)

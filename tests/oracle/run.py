@@ -35,6 +35,7 @@ from machine import Failed, machines
 
 STORED = HERE / "stored"
 TABLE = HERE / "differences.txt"
+CASES = HERE.parent / "cases.txt"
 LIVE_MODES = ("exhaustive", "random", "play", "differences", "broken")
 OTHER_MODES = ("replay", "counterparts", "make-stored", "check-stored", "all")
 USUAL_BOUNDS = (
@@ -83,7 +84,7 @@ def live(machine, mode, options, module):
 def store(machine, folder, module):
     folder.mkdir(parents=True, exist_ok=True)
     program = build.build_program(machine, "store", build_original(machine, module), has_port=False)
-    return run_program(machine, program, [str(folder)])
+    return run_program(machine, program, [str(folder), str(CASES)])
 
 
 def check_stored(machine, module):

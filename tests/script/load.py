@@ -1,6 +1,6 @@
 """Long inputs and outputs, whose answers repeat."""
-from ledger import APART, ok
 from program import Case, lines
+from table import APART, RECORDS
 
 # from one free range, 65536 to 131071, back to it, by way of none
 ROUND = ["a 4096 0", "f 65536 4096", "a 65537 0", "r 70000 100 16", "f 65536 65536", "f 131071 2", "bad", "l"]
@@ -16,5 +16,5 @@ def million():
 
 
 def listings():
-    table = ["list 64 262144"] + [f"{8192 * k} {8192 * k + 4095}" for k in range(1, 65)]
-    return Case("a thousand listings of 64 ranges", lines(APART.split("|") + ["l"] * 1000), lines(ok(64).split("|") + table * 1000))
+    table = [f"list {RECORDS} {4096 * RECORDS}"] + [f"{8192 * k} {8192 * k + 4095}" for k in range(1, RECORDS + 1)]
+    return Case(f"a thousand listings of {RECORDS} ranges", lines(APART + ["l"] * 1000), lines(["ok"] * RECORDS + table * 1000))

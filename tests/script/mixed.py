@@ -3,6 +3,7 @@ import random
 
 from model import play
 from program import Case
+from table import RECORDS
 
 SCRIPTS = 20
 LINES = 4000
@@ -18,4 +19,4 @@ def cases():
     for seed in range(SCRIPTS):
         rng = random.Random(seed)
         text = "\n".join(line(rng) for _ in range(LINES))
-        yield Case(f"random script, seed {seed}", text.encode(), play(text).encode())
+        yield Case(f"random script, seed {seed}", text.encode(), play(text, RECORDS).encode())

@@ -13,7 +13,7 @@ def down(x, order):
 
 
 class Book:
-    def __init__(self, records=64):
+    def __init__(self, records):
         self.records = records
         self.shelf = []  # [start, last, record], by size; among equals the newest first
 
@@ -110,10 +110,10 @@ def answer(book, line):
     return f"no {refusal}" if refusal else "ok"
 
 
-def play(text):
-    """What the program must print for this input."""
+def play(text, records):
+    """What a program with so many records must print for this input."""
     lines = text.split("\n")
     if lines[-1] == "":
         lines.pop()
-    book = Book()
+    book = Book(records)
     return "".join(answer(book, line) + "\n" for line in lines)

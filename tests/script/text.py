@@ -1,6 +1,6 @@
 """Lines that are no calls, and the ways in which an input can be cut into lines and chunks."""
-from ledger import ANSWERS, SCRIPT
 from program import Case, calls, lines
+from table import ANSWERS, SCRIPT
 
 BAD = {
     "empty": [b""],
@@ -39,7 +39,7 @@ def endings():
     yield Case("no last newline", b"f 5 1\na 1 0", b"ok\nok 5\n")
     yield Case("one line, no newline", b"l", b"list 0 0\n")
     yield Case("a bad last line, no newline", b"l\nx", b"list 0 0\nbad\n")
-    yield Case("CRLF", lines(SCRIPT.split("|")).replace(b"\n", b"\r\n"), b"bad\n" * 11)
+    yield Case("CRLF", lines(SCRIPT).replace(b"\n", b"\r\n"), b"bad\n" * len(SCRIPT))
     yield Case("a carriage return alone", b"l\rl\r", b"bad\n")
 
 
@@ -51,7 +51,7 @@ def padding(size):
 
 
 def boundaries():
-    script, answers = lines(SCRIPT.split("|")), lines(ANSWERS.split("|"))
+    script, answers = lines(SCRIPT), lines(ANSWERS)
     for shift in range(len(script) + 2):
         text, count = padding(CHUNK - shift)
         yield Case(f"a chunk's end {shift} bytes into the script", text + script, b"bad\n" * count + answers)

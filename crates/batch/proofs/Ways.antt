@@ -1,11 +1,12 @@
 -- What the definitions give on each way through the code. n is the number of records. Assumes nothing.
-use Prim.Native.Nat.{ℕ, _/_, _%_, _<_, _≤_}
+use Prim.Native.Nat.{ℕ, _/_, _%_}
 use mathlib.Core.Bool.{true, false}
 use mathlib.Core.List.{List}
 use mathlib.Core.Path.{_≡_}
+use lib.Dec.{leb}
 use lib.IntN.{ℤ}
 use lib.ListN.{length}
-use borrow.Author.Tests.{eq-eqb, ne-eqb, le-leb, lt-leb}
+use borrow.Author.Tests.{eq-eqb, ne-eqb}
 use Rattle.state.specs.declared.MemoryAllocator.{MemoryAllocator}
 use Rattle.sound.specs.IsSound.{isSound}
 use Rattle.calls.specs.declared.Answer.the-variants.{Accepted, InvalidEntry, InvalidRequest}
@@ -13,14 +14,11 @@ use Rattle.batch.specs.Lists.{fitted, listServed, answered, Served, Serv
 use Rattle.batch.proofs.InWords.{asked-length, whole-length}
 
 module _ (l : List ℕ) (m : ℕ) where
-  pub fits : length l % 4 ≡ 0 → length l / 4 ≤ m → fitted l m ≡ true
-  fits e h = rw (whole-length l, eq-eqb _ _ e, asked-length l, le-leb _ _ h)
-
   pub part-of-a-call : (length l % 4 ≡ 0 → ⊥) → fitted l m ≡ false
   part-of-a-call d = rw (whole-length l, ne-eqb _ _ d)
 
-  pub too-short : length l % 4 ≡ 0 → m < length l / 4 → fitted l m ≡ false
-  too-short e h = rw (whole-length l, eq-eqb _ _ e, asked-length l, lt-leb _ _ h)
+  pub fits-by : length l % 4 ≡ 0 → leb (length l / 4) m ≡ fitted l m
+  fits-by e = rw (whole-length l, eq-eqb _ _ e, asked-length l)
 
 module _ (n : ℕ) (s : MemoryAllocator) (l : List ℕ) (old : List ℤ) where
   pub unsound : isSound n s ≡ false → Serves n s l old (record { answer = InvalidEntry; state = s }) old

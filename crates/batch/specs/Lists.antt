@@ -6,6 +6,7 @@ use mathlib.Core.Path.{_≡_}
 use lib.Dec.{leb}
 use lib.IntN.{ℤ}
 use lib.ListN.{length}
+use Rattle.state.specs.Lent.{Lent, was, is, OfLent, turns}
 use Rattle.state.specs.declared.MemoryAllocator.{MemoryAllocator}
 use Rattle.sound.specs.IsSound.{isSound}
 use Rattle.calls.specs.Calls.{signedOf}
@@ -54,3 +55,7 @@ pub record Serves (n : ℕ) (s : MemoryAllocator) (l : List ℕ) (old : List ℤ
 pub record Served (n : ℕ) (s : MemoryAllocator) (l : List ℕ) (old : List ℤ) (r : MemoryAllocator) (now : List ℤ) : Type 0 where
   pub state : r ≡ leftBy n s (asked l)
   pub answers : now ≡ written (answersOf n s (asked l)) old
+
+-- the same of the ten fields of a state that are lent
+abbrev pub ServedIn : ℕ → Lent (List ℕ) → Lent (List ℤ) → OfLent
+ServedIn n calls answers = turns (λ s s′. Served n s (was calls) (was answers) s′ (is answers))

@@ -1,19 +1,26 @@
-// A call in words, in place.
+// A call in words, and a list of them, in place.
 use crate::ALLOCATE;
+use crate::CALL_WORDS;
 use crate::FREE;
 use crate::RESERVE;
 use crate::Words;
+use crate::words_at;
 use allocating::allocate_in;
 use calls::Answer;
+use calls::signed_number;
 use freeing::free_in;
 use reserving::reserve_in;
 use state::Address;
 use state::LISTS;
 use state::POOL;
+ghost use mathlib.Core.Bool.{true};
+ghost use mathlib.Core.Path.{_≡_};
+ghost use lib.ListN.{length};
 ghost use Rattle.state.specs.Shown.{pool};
 ghost use Rattle.state.specs.Lent.{HoldsSome};
 ghost use Rattle.calls.specs.Answers.{Follows};
 ghost use Rattle.batch.specs.InWords.{askedBy, ruleOf};
+ghost use Rattle.batch.specs.Lists.{fitted, ServedIn};
 
 // The kind leads to the call itself: a request that was made of the words first would cost as much as a tenth of the call.
 pub fn serve_words_in(
@@ -82,4 +89,47 @@ pub fn serve_words_in(
         );
     }
     Answer::InvalidRequest
+}
+
+// The calls of a list that fits, in order, on the fields of a sound state. They are lent on as they are: nothing is copied or checked
+// between two calls.
+pub fn serve_list_in(
+    total: &mut u64,
+    first: &mut u16,
+    heads: &mut [u16; LISTS],
+    start: &mut [u64; POOL],
+    end: &mut [u64; POOL],
+    enabled: &mut [bool; POOL],
+    previous: &mut [u16; POOL],
+    next: &mut [u16; POOL],
+    lprev: &mut [u16; POOL],
+    lnext: &mut [u16; POOL],
+    calls: &[u64],
+    answers: &mut [i64],
+)
+    requires { ⌜ HoldsSome pool total first heads start end enabled previous next lprev lnext ⌝ }
+    requires { ⌜ fitted (now calls) (length (now answers)) ≡ true ⌝ }
+    ensures { λ _. ⌜ ServedIn pool calls answers total first heads start end enabled previous next lprev lnext ⌝ }
+{
+    let count = calls.len() / CALL_WORDS;
+    let mut k: usize = 0;
+    while k < count {
+        let words = words_at(calls, k);
+        let answer = serve_words_in(
+            total,
+            first,
+            heads,
+            start,
+            end,
+            enabled,
+            previous,
+            next,
+            lprev,
+            lnext,
+            words,
+        );
+        let number = signed_number(answer);
+        answers[k] = number;
+        k += 1;
+    }
 }

@@ -2,8 +2,7 @@
 use calls::Answer;
 use calls::Outcome;
 use calls::Request;
-use calls::signed_number;
-use in_place::serve_words_in;
+use in_place::serve_list_in;
 use sound::is_sound;
 use state::Address;
 use state::MemoryAllocator;
@@ -18,7 +17,7 @@ ghost use Rattle.sound.specs.IsSound.{isSound};
 ghost use Rattle.batch.specs.InWords.{asked, askedBy, askedAt, wordsOf};
 ghost use Rattle.batch.specs.Lists.{fitted, Served, Serves};
 
-mod in_place;
+pub mod in_place;
 
 // A call has this many words: its kind, and three numbers, of which some calls use two.
 pub const CALL_WORDS: usize = 4;
@@ -92,8 +91,17 @@ pub fn asked_at(calls: &[u64], k: usize) -> Asked
     Asked::Unknown
 }
 
-// The calls of a list that fits, in order, on a state that is known to be sound. The fields are lent as they are: nothing is copied or
-// checked between two calls.
+// Whole calls, and a place for the answer of each.
+pub fn list_fits(calls: &[u64], places: usize) -> bool
+    ensures { λ r. ⌜ r ≡ fitted (was calls) places ⌝ }
+{
+    if calls.len() % CALL_WORDS != 0 {
+        return false;
+    }
+    calls.len() / CALL_WORDS <= places
+}
+
+// The calls of a list that fits, in order, on a state that is known to be sound.
 pub fn serve_list_sound(s: MemoryAllocator, calls: &[u64], answers: &mut [i64]) -> MemoryAllocator
     requires { ⌜ isSound pool s ≡ true ⌝ }
     requires { ⌜ fitted (now calls) (length (now answers)) ≡ true ⌝ }
@@ -109,27 +117,20 @@ pub fn serve_list_sound(s: MemoryAllocator, calls: &[u64], answers: &mut [i64]) 
     let mut next = s.next;
     let mut lprev = s.list_prev;
     let mut lnext = s.list_next;
-    let count = calls.len() / CALL_WORDS;
-    let mut k: usize = 0;
-    while k < count {
-        let words = words_at(calls, k);
-        let answer = serve_words_in(
-            &mut total,
-            &mut first,
-            &mut heads,
-            &mut start,
-            &mut end,
-            &mut enabled,
-            &mut previous,
-            &mut next,
-            &mut lprev,
-            &mut lnext,
-            words,
-        );
-        let number = signed_number(answer);
-        answers[k] = number;
-        k += 1;
-    }
+    serve_list_in(
+        &mut total,
+        &mut first,
+        &mut heads,
+        &mut start,
+        &mut end,
+        &mut enabled,
+        &mut previous,
+        &mut next,
+        &mut lprev,
+        &mut lnext,
+        calls,
+        answers,
+    );
     MemoryAllocator {
         free_size: total,
         first_entry: RecordIndex(first),
@@ -149,22 +150,16 @@ pub fn serve_list_unchecked(s: MemoryAllocator, calls: &[u64], answers: &mut [i6
     requires { ⌜ isSound pool s ≡ true ⌝ }
     ensures { λ r. ⌜ Serves pool s (now (calls .entry)) (now (answers .entry)) r (now (answers .exit)) ⌝ }
 {
-    if calls.len() % CALL_WORDS != 0 {
+    if list_fits(calls, answers.len()) {
+        let left = serve_list_sound(s, calls, answers);
         return Outcome {
-            answer: Answer::InvalidRequest,
-            state: s,
+            answer: Answer::Accepted(Address(0)),
+            state: left,
         };
     }
-    if answers.len() < calls.len() / CALL_WORDS {
-        return Outcome {
-            answer: Answer::InvalidRequest,
-            state: s,
-        };
-    }
-    let left = serve_list_sound(s, calls, answers);
     Outcome {
-        answer: Answer::Accepted(Address(0)),
-        state: left,
+        answer: Answer::InvalidRequest,
+        state: s,
     }
 }
 

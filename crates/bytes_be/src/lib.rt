@@ -17,6 +17,20 @@ pub fn put_be(part: &mut [u8], x: u64)
     }
 }
 
+// The same of eight bytes: a loop whose length stands where it is compiled may become one store.
+pub fn put_word(part: &mut [u8], x: u64)
+    requires { ⌜ length (now part) ≡ 8 ⌝ }
+    ensures { λ _. ⌜ now (part .exit) ≡ be (length (now (part .entry))) x ⌝ }
+{
+    let mut left = x;
+    let mut i: usize = 8;
+    while i > 0 {
+        i -= 1;
+        part[i] = (left % 256) as u8;
+        left = left / 256;
+    }
+}
+
 // The number in a part of up to eight bytes.
 pub fn read_be(part: &[u8]) -> u64
     requires { ⌜ length (now part) ≤ 8 ⌝ }
@@ -26,6 +40,20 @@ pub fn read_be(part: &[u8]) -> u64
     let mut x: u64 = 0;
     let mut i = 0;
     while i < part.len() {
+        x = x * 256 + wide(part[i]);
+        i += 1;
+    }
+    x
+}
+
+// The number in eight bytes: one load, likewise.
+pub fn read_word(part: &[u8]) -> u64
+    requires { ⌜ length (now part) ≡ 8 ⌝ }
+    ensures { λ r. ⌜ r ≡ number (now (part .entry)) ⌝ }
+{
+    let mut x: u64 = 0;
+    let mut i: usize = 0;
+    while i < 8 {
         x = x * 256 + wide(part[i]);
         i += 1;
     }

@@ -19,14 +19,16 @@ use Rattle.calls.specs.Calls.{voucherFrom}
 use Rattle.calls.specs.declared.Outcome.{Outcome}
 use Rattle.memory_allocator.proofs.Steps.{sound-held, made-held, made-voucher}
 use Rattle.image_parts.specs.Layout.{Layout, imageSize}
-use Rattle.image.specs.Writing.{imageOf}
-use Rattle.image.specs.Reading.{Handed, stateIn}
-use Rattle.image.proofs.Fitting.{Lawful, sound-fits}
+use Rattle.image_writing.specs.Writing.{imageOf}
+use Rattle.image_parts.proofs.Lawful.{Lawful, small-pool}
+use Rattle.image_reading.specs.Reading.{stateIn}
+use Rattle.image.specs.Reading.{Handed}
+use Rattle.image.proofs.Fitting.{sound-fits}
 use Rattle.image.proofs.ReadBack.{state-back}
 use Rattle.image.proofs.Rounds.{read-written}
 use Rattle.c_calls.specs.CCalls.{Returned, returned, finished, newOver, callOver}
 use Rattle.c_calls.specs.Images.{bookIn, totalIn, images}
-use Rattle.c_calls.proofs.Ways.{small-pool, new-done}
+use Rattle.c_calls.proofs.Ways.{new-done}
 use Rattle.c_calls.proofs.Images.{call-bytes, call-voucher}
 
 module _ (f : Layout) (lawful : Lawful f) where
@@ -55,7 +57,7 @@ module _ (f : Layout) (lawful : Lawful f) where
     -- the first call answers 0 and writes the image of `new`
     pub new-written : newOver f l ≡ returned (pos 0) (imageOf f (stateOf n empty))
     unfolding finished
-    new-written = sym (new-done f l _ sized refl)
+    new-written = sym (new-done f l sized _ refl)
 
     pub obeys : Obeys n (images f l)
     obeys = record {

@@ -14,11 +14,10 @@ use Rattle.serving.specs.Made.{made}
 use Rattle.calls.specs.declared.Outcome.{Outcome}
 use Rattle.memory_allocator.proofs.Refusals.{refused-same}
 use Rattle.image_parts.specs.Layout.{Layout}
-use Rattle.image.specs.Writing.{imageOf}
-use Rattle.image.proofs.Fitting.{Lawful}
+use Rattle.image_writing.specs.Writing.{imageOf}
+use Rattle.image_parts.proofs.Lawful.{Lawful, small-pool}
 use Rattle.image.proofs.Rounds.{read-written}
 use Rattle.c_calls.specs.CCalls.{Returned, finished, over, callOver}
-use Rattle.c_calls.proofs.Ways.{small-pool}
 
 -- over the image of the state that a refusal hands back, every outcome leaves the image of its state
 pub leaves-image : (f : Layout) (r : Outcome) (s : MemoryAllocator) → (numberOf (r .answer) ≢ 0 → r .state ≡ s) → finished f r (imageOf f s) .bytes ≡ imageOf f (r .state)

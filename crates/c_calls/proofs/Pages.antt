@@ -17,11 +17,10 @@ use Rattle.pages.proofs.Paged.{page-demand}
 use Rattle.bytes_be.specs.Numbers.{Bytes}
 use Rattle.image_parts.specs.Layout.{Layout, imageSize}
 use Rattle.image.specs.Reading.{Handed, readingOf}
-use Rattle.image.proofs.Fitting.{Lawful}
+use Rattle.image_parts.proofs.Lawful.{Lawful, small-pool}
 use Rattle.image.proofs.Rounds.{read-written, accepted-image}
 use Rattle.c_calls.specs.CCalls.{over, callOver, pagesOver}
 use Rattle.c_calls.specs.Images.{images, pagesOfImages}
-use Rattle.c_calls.proofs.Ways.{small-pool}
 use Rattle.c_calls.proofs.Demand.{obeys}
 
 module _ (f : Layout) (lawful : Lawful f) (l : List ℕ) where

@@ -1,20 +1,19 @@
 -- What each C call returns, and every byte of the image that it leaves, for every image and all numbers. Assumes nothing.
-use Prim.Native.Nat.{ℕ, _<_}
+use Prim.Native.Nat.{ℕ}
 use mathlib.Core.Bool.{Bool, cond}
 use mathlib.Core.List.{List}
-use mathlib.Core.Path.{_≡_}
 use lib.Dec.{eqb}
 use lib.IntN.{ℤ}
 use lib.ListN.{length}
-use Rattle.rules.specs.Rules.{top, empty, Call, Free, Allocate, Reserve}
+use Rattle.rules.specs.Rules.{empty, Call, Free, Allocate, Reserve}
 use Rattle.state.specs.State.{stateOf}
-use Rattle.calls.specs.Calls.{addressOf, isAccepted, signedOf}
+use Rattle.calls.specs.Calls.{isAccepted, signedOf}
 use Rattle.calls.specs.declared.Answer.the-variants.{Accepted, InvalidEntry}
 use Rattle.serving.specs.Made.{made}
 use Rattle.calls.specs.declared.Outcome.{Outcome}
 use Rattle.pages.specs.Calls.{PageCall, AllocatePages, FreePages, byteCall}
 use Rattle.image_parts.specs.Layout.{Layout, imageSize}
-use Rattle.image.specs.Writing.{imageOf}
+use Rattle.image_writing.specs.Writing.{imageOf}
 use Rattle.image.specs.Reading.{readingOf}
 
 -- what a call returns, and the image that it leaves
@@ -63,10 +62,3 @@ begun f = record { answer = Accepted (record { 0 = 0 }); state = stateOf (f .rec
 -- whatever is there serves, if it has the length
 unfoldable pub newOver : Layout → List ℕ → Returned
 newOver f l = over f (eqb (length l) (imageSize f)) (begun f) l
-
--- ---- what the inner functions cite
-
--- the outcome can be answered by one signed number, and its state written over the bytes
-pub record Finishes (f : Layout) (r : Outcome) (l : List ℕ) : Type 0 where
-  pub sized : length l ≡ imageSize f
-  pub below : addressOf (r .answer) < top

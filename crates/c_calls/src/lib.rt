@@ -1,23 +1,25 @@
 // The calls as C has them: over a lent image, with one signed number as the answer.
 use calls::INVALID_ENTRY;
-use finish::finish_call;
 use image_parts::layout::IMAGE;
+use image_writing::write_fields;
+use many::DONE;
 use many::list_over;
 use memory_allocator::Address;
-use memory_allocator::Answer;
-use memory_allocator::Outcome;
 use memory_allocator::Request;
-use memory_allocator::new;
 use over::call_over;
 use pages::bytes_of;
 use pages::freed_bytes;
 use pages::raised_order;
+use state::LISTS;
+use state::NONE;
+use state::POOL;
+use state::RecordIndex;
 ghost use mathlib.Core.Path.{_≡_};
 ghost use Rattle.image_parts.specs.Layout.{current};
 ghost use Rattle.c_calls.specs.CCalls.{returned, newOver, allocateOver, reserveOver, freeOver, allocatePagesOver, freePagesOver};
 ghost use Rattle.c_calls.specs.Lists.{BatchOver};
 
-mod finish;
+mod journal;
 mod many;
 mod over;
 
@@ -29,11 +31,25 @@ pub extern "C" fn cinghjalofa_new(image: &mut [u8]) -> i64
     if image.len() != IMAGE {
         return INVALID_ENTRY;
     }
-    let outcome = Outcome {
-        answer: Answer::Accepted(Address(0)),
-        state: new(),
-    };
-    finish_call(outcome, image)
+    let heads = [NONE; LISTS];
+    let bytes = [0u64; POOL];
+    let unused = [false; POOL];
+    let links = [NONE; POOL];
+    write_fields(
+        image,
+        true,
+        0,
+        RecordIndex(NONE),
+        &heads,
+        &bytes,
+        &bytes,
+        &unused,
+        &links,
+        &links,
+        &links,
+        &links,
+    );
+    DONE
 }
 
 // `size` bytes from a multiple of 2^order; the answer is the address of the first.

@@ -13,17 +13,7 @@ use Rattle.state.specs.declared.MemoryAllocator.{MemoryAllocator}
 use Rattle.sound_records.specs.Records.{used}
 use Rattle.soundness.specs.Paragraph.{Sized, Link, Links, Paragraph}
 use Rattle.soundness.proofs.Exact.{paragraph}
-use Rattle.image_parts.specs.Layout.{Layout, current, word, noLink, lengthAt, lengthSize, restSize}
-
--- the fields of a layout's own numbers can hold them, and a link's bytes the number of each record
-pub record Lawful (f : Layout) : Type 0 where
-  pub versions : f .version < 256 ^ lengthAt
-  pub rests : restSize f < 256 ^ lengthSize
-  pub records : f .records ≤ noLink f
-  pub links : noLink f ≤ none
-
-pub lawful-current : Lawful current
-lawful-current = record { versions = omega arith; rests = omega arith; records = omega arith; links = omega arith }
+use Rattle.image_parts.specs.Layout.{word}
 
 pub record Fits (n : ℕ) (s : MemoryAllocator) : Type 0 where
   pub sized : Sized n s

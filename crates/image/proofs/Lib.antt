@@ -1,8 +1,8 @@
 -- Laws of the image.
 pub mod Ways
 pub mod Tight
-pub mod Places
 pub mod Fitting
 pub mod ReadBack
 pub mod WriteBack
 pub mod Rounds
+pub mod Standing

@@ -20,14 +20,15 @@ use Rattle.bytes_be.specs.Numbers.{be, number}
 use Rattle.bytes_be.proofs.Laws.{length-be, number-be}
 use Rattle.image_parts.specs.Layout.{Layout, word, noLink, lengthAt, lengthSize, totalAt, firstAt, headsAt, recordsAt, endAt, enabledAt, linksAt, recordSize, imageSize, restSize}
 use Rattle.image_parts.specs.Written.{joined, linkNumber, flagNumber, linkBytes, recordBytes, headBytes}
-use Rattle.image.specs.Writing.{entryAt, imageOf}
+use Rattle.image_writing.specs.Writing.{entryAt, imageOf}
 use Rattle.image_parts.specs.Read.{numberIn, linkOf, numbersIn, linksIn, flagsIn, bits}
-use Rattle.image.specs.Reading.{stateIn}
+use Rattle.image_reading.specs.Reading.{stateIn}
 use Rattle.image_parts.specs.declared.records.MemoryEntry.{MemoryEntry}
 use Rattle.image_parts.proofs.Parts.{length-joined, length-record, length-head, record-room}
-use Rattle.image.proofs.Places.{number-in, number-at, one-byte}
+use Rattle.image_parts.proofs.Lawful.{Lawful}
+use Rattle.image_parts.proofs.Places.{number-in, number-at, one-byte}
 use Rattle.image.proofs.Ways.{Frame}
-use Rattle.image.proofs.Fitting.{Lawful, Fits}
+use Rattle.image.proofs.Fitting.{Fits}
 
 module _ (f : Layout) (lawful : Lawful f) where
   -- ---- a link and a flag

@@ -6,37 +6,25 @@ use mathlib.Core.List.{List}
 use Prim.Native.Nat.{ℕ, _≤_}
 use native.Mathlib.Omega.{arith}
 use lib.ListN.{length}
-use Rattle.lists.proofs.Laws.{length-tab}
-use Rattle.rules.specs.Rules.{sizeLists}
 use Rattle.state.specs.Sound.{SoundState}
 use Rattle.state.specs.declared.MemoryAllocator.{MemoryAllocator}
 use Rattle.lists.specs.Links.{none}
 use Rattle.sound.specs.IsSound.{isSound}
-use Rattle.soundness.specs.Paragraph.{Sized}
 use Rattle.soundness.proofs.Exact.{sound-passes, passes-sound}
 use Rattle.bytes_be.specs.Numbers.{Bytes}
 use Rattle.image_parts.specs.Layout.{Layout, imageSize}
-use Rattle.image.specs.Writing.{imageOf, Image, numberOf, written, writingOf}
-use Rattle.image_parts.specs.Read.{numbersIn, linksIn, flagsIn}
-use Rattle.image.specs.Reading.{framed, stateIn, Handed, accepted, refused, readingOf}
+use Rattle.image_writing.specs.Writing.{imageOf}
+use Rattle.image.specs.Writing.{Image, numberOf, written, writingOf}
+use Rattle.image_parts.proofs.Lawful.{Lawful, small-pool}
+use Rattle.image_parts.proofs.Loops.{both}
+use Rattle.image_reading.specs.Reading.{framed, stateIn}
+use Rattle.image_reading.proofs.Whole.{state-sized}
+use Rattle.image.specs.Reading.{Handed, accepted, refused, readingOf}
 use Rattle.image.specs.declared.ImageAnswer.the-variants.{Done, InvalidEntry}
-use Rattle.image.proofs.Ways.{both, framed-frame, frame-framed, read-done, done}
-use Rattle.image.proofs.Fitting.{Lawful, Fits, sound-fits}
+use Rattle.image.proofs.Ways.{framed-frame, frame-framed, read-done, done}
+use Rattle.image.proofs.Fitting.{Fits, sound-fits}
 use Rattle.image.proofs.ReadBack.{state-back, frame-back}
 use Rattle.image.proofs.WriteBack.{image-again}
-
-state-sized : (f : Layout) (l : List ℕ) → Sized (f .records) (stateIn f l)
-unfolding stateIn numbersIn linksIn flagsIn
-state-sized f l = record {
-  heads = length-tab sizeLists 0 _;
-  start = length-tab (f .records) 0 _;
-  end = length-tab (f .records) 0 _;
-  enabled = length-tab (f .records) 0 _;
-  previous = length-tab (f .records) 0 _;
-  next = length-tab (f .records) 0 _;
-  list-prev = length-tab (f .records) 0 _;
-  list-next = length-tab (f .records) 0 _;
-}
 
 -- what an accepted read has passed
 record Accepted (f : Layout) (l : List ℕ) : Type 0 where
@@ -62,7 +50,7 @@ either f l = go (framed f l && isSound (f .records) (stateIn f l))
 
 module _ (f : Layout) (lawful : Lawful f) where
   small : f .records ≤ none
-  small = let h = lawful .records in let k = lawful .links in omega arith
+  small = small-pool f lawful
 
   fits : (s : MemoryAllocator) → SoundState (f .records) s → Fits (f .records) s
   fits = sound-fits (f .records) small

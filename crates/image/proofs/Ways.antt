@@ -1,18 +1,20 @@
 -- What the definitions give on each way through the code, over any layout. Assumes nothing.
 use mathlib.Core.Path.{_≡_, refl, sym}
-use mathlib.Core.Bool.{Bool, true, false, _&&_}
+use mathlib.Core.Bool.{Bool, true, false}
 use mathlib.Core.List.{List}
 use Prim.Native.Nat.{ℕ, _+_}
 use lib.Dec.{eqb}
 use lib.ListN.{length}
 use borrow.Author.Tests.{eq-eqb, ne-eqb, eqb-true}
-use Rattle.lists.proofs.Laws.{true≢false}
 use Rattle.state.specs.declared.MemoryAllocator.{MemoryAllocator}
 use Rattle.sound.specs.IsSound.{isSound}
 use Rattle.image_parts.specs.Layout.{Layout, lengthAt, lengthSize, recordsAt, enabledAt, recordSize, imageSize, restSize}
-use Rattle.image.specs.Writing.{imageOf, written, writingOf}
+use Rattle.image_writing.specs.Writing.{imageOf}
+use Rattle.image.specs.Writing.{written, writingOf}
 use Rattle.image_parts.specs.Read.{numberIn, bits}
-use Rattle.image.specs.Reading.{framed, stateIn, accepted, refused, readingOf}
+use Rattle.image_parts.proofs.Loops.{both}
+use Rattle.image_reading.specs.Reading.{framed, stateIn, readable}
+use Rattle.image.specs.Reading.{accepted, refused, readingOf}
 use Rattle.image.specs.declared.ImageAnswer.the-variants.{Done, InvalidEntry}
 
 -- ---- writing
@@ -40,25 +42,13 @@ pub record Frame (f : Layout) (l : List ℕ) : Type 0 where
   pub rests : numberIn l lengthAt lengthSize ≡ restSize f
   pub flags : bits l (recordsAt f + enabledAt) (recordSize f) (f .records) 0 ≡ true
 
-pub both : (a b : Bool) → (a && b) ≡ true → (a ≡ true) × (b ≡ true)
-both true b h = (refl, h)
-both false b h = true≢false (sym h)
-
 module _ (f : Layout) (l : List ℕ) where
   pub framed-not : (length l ≡ imageSize f → ⊥) → false ≡ framed f l
   unfolding framed
   framed-not h = rw (ne-eqb (length l) (imageSize f) h)
 
   module _ (h : length l ≡ imageSize f) (v : ℕ) (ev : v ≡ numberIn l 0 lengthAt) where
-    pub framed-version : (v ≡ f .version → ⊥) → false ≡ framed f l
-    unfolding framed
-    framed-version off = rw (eq-eqb (length l) (imageSize f) h, ← ev, ne-eqb v (f .version) off)
-
     module _ (on : v ≡ f .version) (r : ℕ) (er : r ≡ numberIn l lengthAt lengthSize) where
-      pub framed-rest : (r ≡ restSize f → ⊥) → false ≡ framed f l
-      unfolding framed
-      framed-rest off = rw (eq-eqb (length l) (imageSize f) h, ← ev, eq-eqb v (f .version) on, ← er, ne-eqb r (restSize f) off)
-
       pub framed-bits : (b : Bool) → r ≡ restSize f → b ≡ bits l (recordsAt f + enabledAt) (recordSize f) (f .records) 0 → b ≡ framed f l
       unfolding framed
       framed-bits b same e = rw (eq-eqb (length l) (imageSize f) h, ← ev, eq-eqb v (f .version) on, ← er, eq-eqb r (restSize f) same, ← e)
@@ -80,10 +70,16 @@ module _ (f : Layout) (l : List ℕ) where
     unframed off = rw (← eb, off)
 
     module _ (on : b ≡ true) (s : MemoryAllocator) (es : s ≡ stateIn f l) (t : Bool) (et : t ≡ isSound (f .records) s) where
-      pub read-unsound : t ≡ false → refused f ≡ readingOf f l
-      unfolding readingOf
-      read-unsound off = rw (← eb, on, ← es, ← et, off)
-
       pub read-done : t ≡ true → accepted s ≡ readingOf f l
       unfolding readingOf
       read-done is = rw (← eb, on, ← es, ← et, is)
+
+  -- by what was told of the bytes as a whole
+  module _ (r : Bool) (told : r ≡ readable f l) where
+    pub unread : r ≡ false → refused f ≡ readingOf f l
+    unfolding readingOf
+    unread off = rw (← told, off)
+
+    pub read-whole : r ≡ true → (s : MemoryAllocator) → s ≡ stateIn f l → accepted s ≡ readingOf f l
+    unfolding readingOf
+    read-whole on s es = rw (← told, on, ← es)

@@ -1,15 +1,15 @@
 -- What is written of the state in a framed list of bytes is that list. Assumes nothing.
 use mathlib.Core.Path.{_≡_, refl, sym, _∙_, ap}
-use mathlib.Core.Bool.{Bool, true, false}
+use mathlib.Core.Bool.{Bool, false}
 use mathlib.Core.Logic.{⊎-elim}
 use mathlib.Core.List.{List, [], _∷_}
 use Prim.Native.Nat.{ℕ, zero, suc, _+_, _*_, _^_, _≤_, _<_}
 use native.Mathlib.Nat.{mul-zero, mul-add, mul-one, mul-le-mul-left}
 use native.Mathlib.Omega.{arith}
-use lib.Dec.{leb, eqb}
+use lib.Dec.{eqb}
 use lib.ListN.{length, take, drop, getD}
 use lib.Seq.{take-all}
-use borrow.Author.Tests.{lt-ltb, le-ltb, eq-eqb, ne-eqb, leb-true}
+use borrow.Author.Tests.{lt-ltb, le-ltb, eq-eqb, ne-eqb}
 use Rattle.lists.specs.Links.{none}
 use Rattle.lists.proofs.Laws.{same?, length-tab}
 use Rattle.rules.specs.Rules.{sizeLists}
@@ -17,24 +17,17 @@ use Rattle.state.proofs.States.{at-tab}
 use Rattle.bytes_be.specs.Numbers.{be, Bytes}
 use Rattle.image_parts.specs.Layout.{Layout, word, noLink, lengthAt, lengthSize, totalAt, firstAt, headsAt, recordsAt, endAt, enabledAt, linksAt, recordSize, imageSize}
 use Rattle.image_parts.specs.Written.{joined, linkNumber, flagNumber, linkBytes, recordBytes, headBytes}
-use Rattle.image.specs.Writing.{entryAt, imageOf}
-use Rattle.image_parts.specs.Read.{numberIn, linkOf, numbersIn, linksIn, flagsIn, bits}
-use Rattle.image.specs.Reading.{stateIn}
-use Rattle.image.proofs.Places.{one-byte, beside, part-below, again, joined-take}
+use Rattle.image_writing.specs.Writing.{entryAt, imageOf}
+use Rattle.image_parts.specs.Read.{numberIn, linkOf, numbersIn, linksIn, flagsIn}
+use Rattle.image_reading.specs.Reading.{stateIn}
+use Rattle.image_parts.proofs.Lawful.{Lawful}
+use Rattle.image_parts.proofs.Loops.{bit-at}
+use Rattle.image_parts.proofs.Places.{one-byte, beside, part-below, again, joined-take}
 use Rattle.image_parts.proofs.Parts.{record-room}
-use Rattle.image.proofs.Ways.{Frame, both}
-use Rattle.image.proofs.Fitting.{Lawful}
+use Rattle.image.proofs.Ways.{Frame}
 
 flag-again : (x : ℕ) → x ≤ 1 → flagNumber (eqb x 1) ≡ x
 flag-again x h = ⊎-elim (λ (e : x ≡ 1). rw (eq-eqb x 1 e) (sym e)) (λ e. rw (ne-eqb x 1 e) (omega arith)) (same? x 1)
-
--- the i-th of the bytes that are 0 or 1
-bit-at : (l : List ℕ) (a d n j i : ℕ) → bits l a d n j ≡ true → j ≤ i → i < j + n → getD l (a + d * i) 0 ≤ 1
-unfolding bits
-bit-at l a d zero j i e h b = absurd (omega arith)
-bit-at l a d (suc n) j i e h b =
-    let p = both (leb (getD l (a + d * j) 0) 1) _ e in
-    ⊎-elim (λ (q : i ≡ j). rw q (leb-true _ 1 (p .0))) (λ q. bit-at l a d n (suc j) i (p .1) (omega arith) (omega arith)) (same? i j)
 
 module _ (f : Layout) (lawful : Lawful f) where
   link-again : (x : ℕ) → x < 256 ^ (f .link) → linkNumber f (linkOf f x) ≡ x
@@ -96,7 +89,7 @@ module _ (f : Layout) (lawful : Lawful f) where
           links-part _ (place linksAt) 4 refl (room linksAt (f .link * 4) (omega arith))
           (λ k bk. let at : place (linksAt + f .link * k) ≡ place linksAt + f .link * k = omega arith in record-links k bk ∙ ap (λ (m : ℕ). linkOf f (numberIn l m (f .link))) at)
 
-      record-again : recordBytes f (entryAt (stateIn f l) i) ≡ take (recordSize f) (drop (recordsAt f + recordSize f * i) l)
+      pub record-again : recordBytes f (entryAt (stateIn f l) i) ≡ take (recordSize f) (drop (recordsAt f + recordSize f * i) l)
       unfolding recordBytes stateIn
       record-again =
           let at : place 0 ≡ recordsAt f + recordSize f * i = omega arith in

@@ -1,17 +1,20 @@
 -- Loops that fill an array by a function, and that lay pieces of one width side by side. Each has a start, a next turn and an end. Assumes nothing.
-use mathlib.Core.Path.{_≡_, sym, _∙_, ap}
-use mathlib.Core.Bool.{true, false}
+use mathlib.Core.Path.{_≡_, refl, sym, _∙_, ap}
+use mathlib.Core.Bool.{Bool, true, false, _&&_}
+use mathlib.Core.Logic.{⊎-elim}
 use mathlib.Core.List.{List, [], _∷_, _++_, append-assoc, append-nil}
-use Prim.Native.Nat.{ℕ, suc, _+_, _-_, _*_, _≤_, _<_}
+use Prim.Native.Nat.{ℕ, zero, suc, _+_, _-_, _*_, _≤_, _<_}
 use native.Mathlib.Nat.{mul-add, mul-one, mul-zero, add-zero, sub-zero, mul-le-mul-left}
 use native.Mathlib.Numerals.{add-one}
 use native.Mathlib.Omega.{arith}
+use lib.Dec.{leb}
 use lib.ListN.{length, take, drop, set, getD, length-append, length-set, length-take, length-drop}
 use lib.Seq.{take-suc-set, take-all, take-at}
-use borrow.Author.Tests.{le-leb, lt-leb}
+use borrow.Author.Tests.{le-leb, lt-leb, leb-true}
 use borrow.Rule.Slice.PartMut.{putMid}
 use Rattle.bytes_be.specs.Numbers.{number}
 use Rattle.lists.specs.Links.{tab}
+use Rattle.lists.proofs.Laws.{same?, true≢false}
 use Rattle.image_parts.specs.Written.{joined}
 use Rattle.image_parts.specs.Read.{bits}
 
@@ -110,6 +113,18 @@ module _ (l : List ℕ) (a d n i : ℕ) (b : i < n) where
 pub bit-end : (l : List ℕ) (a d n i : ℕ) → n ≤ i → bits l a d (n - i) i ≡ true
 unfolding bits
 bit-end l a d n i h = let m : n - i ≡ 0 = omega arith in rw m
+
+pub both : (a b : Bool) → (a && b) ≡ true → (a ≡ true) × (b ≡ true)
+both true b h = (refl, h)
+both false b h = true≢false (sym h)
+
+-- the i-th of the bytes that are 0 or 1
+pub bit-at : (l : List ℕ) (a d n j i : ℕ) → bits l a d n j ≡ true → j ≤ i → i < j + n → getD l (a + d * i) 0 ≤ 1
+unfolding bits
+bit-at l a d zero j i e h b = absurd (omega arith)
+bit-at l a d (suc n) j i e h b =
+    let p = both (leb (getD l (a + d * j) 0) 1) _ e in
+    ⊎-elim (λ (q : i ≡ j). rw q (leb-true _ 1 (p .0))) (λ q. bit-at l a d n (suc j) i (p .1) (omega arith) (omega arith)) (same? i j)
 
 -- ---- a part of k bytes is read
 

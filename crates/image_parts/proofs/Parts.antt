@@ -66,8 +66,8 @@ put-last xs p zs y t a k all g e =
     let end : drop (a + k) xs ≡ [] = drop-of-length-le xs {i = a + k} (omega arith) in
     rw (g .parts, take-at p (drop a xs) a (g .size), drop-at p (drop a xs) a (g .size), drop-drop k a xs, end, append-nil, e)
 
--- the front of a list is y, and the rest is written anew
-pub put-both : (xs y z t u : List ℕ) (a : ℕ) → a ≤ length xs → length y ≡ length (midOf 0 a xs) → y ≡ t → z ≡ take a (putMid 0 a xs y) ++ u → z ≡ t ++ u
-put-both xs y z t u a room kept e is =
-    let l : length y ≡ a = kept ∙ simp length-take (omega arith) in
-    is ∙ rw (take-at y (drop a xs) a l, e)
+-- the part that begins the list, where u stands behind it
+pub put-front : (old xs y t u : List ℕ) (a : ℕ) → a ≤ length old → xs ≡ take a old ++ u → y ≡ t → putMid 0 a xs y ≡ t ++ u
+put-front old xs y t u a room is e =
+    let l : length (take a old) ≡ a = simp length-take (omega arith) in
+    rw (is, e, drop-at (take a old) u a l)

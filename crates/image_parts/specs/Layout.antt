@@ -57,6 +57,10 @@ linksAt = enabledAt + 1
 abbrev pub recordSize : Layout → ℕ
 recordSize f = linksAt + f .link * 4
 
+-- the first byte of record i
+abbrev pub recordAt : Layout → ℕ → ℕ
+recordAt f i = recordsAt f + recordSize f * i
+
 -- ---- the whole
 
 abbrev pub imageSize : Layout → ℕ

@@ -9,6 +9,7 @@ use crate::layout::VERSION;
 use crate::links::link_number;
 use crate::links::write_links;
 use bytes_be::put_be;
+use bytes_be::put_word;
 use state::LISTS;
 use state::RecordIndex;
 ghost use mathlib.Core.Path.{_≡_};
@@ -22,7 +23,7 @@ pub fn write_head(part: &mut [u8], total: u64, first: RecordIndex, heads: &[u16;
 {
     put_be(&mut part[0..LENGTH], VERSION);
     put_be(&mut part[LENGTH..TOTAL], REST);
-    put_be(&mut part[TOTAL..FIRST], total);
+    put_word(&mut part[TOTAL..FIRST], total);
     put_be(&mut part[FIRST..HEADS], link_number(first));
     write_links(&mut part[HEADS..RECORDS], heads);
 }

@@ -5,6 +5,7 @@ use crate::layout::LINKS;
 use crate::layout::RECORD;
 use crate::links::write_links;
 use bytes_be::put_be;
+use bytes_be::put_word;
 use state::Address;
 use state::RecordIndex;
 ghost use mathlib.Core.Path.{_≡_};
@@ -33,8 +34,8 @@ pub fn write_record(part: &mut [u8], e: MemoryEntry)
     ensures { λ _. ⌜ now (part .exit) ≡ recordBytes current e ⌝ }
 {
     let links = [e.previous.0, e.next.0, e.list_prev.0, e.list_next.0];
-    put_be(&mut part[0..END], e.start.0);
-    put_be(&mut part[END..ENABLED], e.end.0);
+    put_word(&mut part[0..END], e.start.0);
+    put_word(&mut part[END..ENABLED], e.end.0);
     put_be(&mut part[ENABLED..LINKS], flag_number(e.enabled));
     write_links(&mut part[LINKS..RECORD], &links);
 }

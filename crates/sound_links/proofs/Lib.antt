@@ -2,4 +2,5 @@
 pub mod Walk
 pub mod Steps
 pub mod Chain
+pub mod Bounds
 pub mod Lists

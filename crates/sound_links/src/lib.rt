@@ -1,21 +1,24 @@
 // The chain and the size lists: each walked once along its links.
-use align::size_to_page_order;
 use sound_records::Tally;
 use state::Address;
 use state::LISTS;
-use state::ListIndex;
 use state::NONE;
 use state::POOL;
 use state::RecordIndex;
+use state::TOP;
 ghost use mathlib.Core.Path.{_≡_};
-ghost use Prim.Native.Nat.{_<_, _≤_};
+ghost use Prim.Native.Nat.{ℕ, _<_, _≤_};
 ghost use lib.ListN.{getD};
 ghost use Rattle.lists.specs.Links.{none};
 ghost use Rattle.rules.specs.Rules.{sizeLists, top};
 ghost use Rattle.state.specs.Shown.{pool};
 ghost use Rattle.state.specs.Lent.{was};
 ghost use Rattle.sound_records.specs.Records.{Proper};
-ghost use Rattle.sound_links.specs.Walks.{follows, sizeAt, chainStep, chainOk, listStep, listWalk, listsOk};
+ghost use Rattle.sound_links.specs.Walks.{follows, sizeAt, chainStep, chainOk, listWalk, listsOk};
+ghost use Rattle.sound_links.specs.Bounds.{mostOf, Bounds};
+
+// The most bytes of a range of list 0.
+const PAGE: u64 = 4096;
 
 // The number of bytes of record i.
 fn size_at(start: &[u64; POOL], end: &[u64; POOL], i: RecordIndex) -> u64
@@ -97,60 +100,56 @@ pub fn chain_ok(
     sum == total
 }
 
-// Record i follows `before` in list k: it has at least `low` bytes, and a size of that list.
-fn list_step(
-    start: &[u64; POOL],
-    end: &[u64; POOL],
-    enabled: &[bool; POOL],
-    lprev: &[u16; POOL],
-    k: ListIndex,
-    before: RecordIndex,
-    low: u64,
-    i: RecordIndex,
-) -> bool
-    requires { ⌜ Proper pool (now start) (now end) (now enabled) ⌝ }
-    ensures { λ r. ⌜ r ≡ listStep pool (was start) (was end) (was enabled) (was lprev) (k .0) (before .0) low (i .0) ⌝ }
+// The most bytes that a range of list k has. The last list takes all that are longer.
+fn most_of(k: usize) -> u64
+    requires { ⌜ k < sizeLists ⌝ }
+    ensures { λ r. ⌜ r ≡ mostOf k ⌝ }
 {
-    if !follows(enabled, lprev, before, i) {
-        return false;
+    if k < LISTS - 1 {
+        return PAGE << k;
     }
-    let size = size_at(start, end, i);
-    if size < low {
-        return false;
-    }
-    size_to_page_order(size).0 == k.0
+    TOP
 }
 
-// How many of `count` records list k leaves, from its head.
+// How many of `count` records the list from `head` leaves, if its sizes do not fall, from `least` to `most`. That none is above `most` is
+// asked once, of the last one.
 fn tally_list(
     start: &[u64; POOL],
     end: &[u64; POOL],
     enabled: &[bool; POOL],
     lprev: &[u16; POOL],
     lnext: &[u16; POOL],
-    k: ListIndex,
+    least: u64,
+    most: u64,
     count: usize,
     head: RecordIndex,
 ) -> Tally
     requires { ⌜ Proper pool (now start) (now end) (now enabled) ⌝ }
-    ensures { λ r. ⌜ r ≡ listWalk pool (was start) (was end) (was enabled) (was lprev) (was lnext) (k .0) count none 0 (head .0) ⌝ }
+    ensures { λ r. ⌜ ((k : ℕ) → Bounds k least most → r ≡ listWalk pool (was start) (was end) (was enabled) (was lprev) (was lnext) k count none 0 (head .0)) ⌝ }
 {
     let mut before = RecordIndex(NONE);
     let mut cur = head;
-    let mut low: u64 = 0;
+    let mut low = least;
     let mut left = count;
     while cur.0 != NONE {
         if left == 0 {
             return Tally::Broken;
         }
-        if !list_step(start, end, enabled, lprev, k, before, low, cur) {
+        if !follows(enabled, lprev, before, cur) {
             return Tally::Broken;
         }
-        low = size_at(start, end, cur);
+        let size = size_at(start, end, cur);
+        if size < low {
+            return Tally::Broken;
+        }
+        low = size;
         let n = cur.0 as usize;
         before = cur;
         cur = RecordIndex(lnext[n]);
         left = left - 1;
+    }
+    if most < low {
+        return Tally::Broken;
     }
     Tally::Of(left)
 }
@@ -169,15 +168,18 @@ pub fn lists_ok(
     ensures { λ r. ⌜ r ≡ listsOk pool (was heads) (was start) (was end) (was enabled) (was lprev) (was lnext) sizeLists 0 count ⌝ }
 {
     let mut k: usize = 0;
+    let mut least: u64 = 1;
     let mut left = count;
     while k < LISTS {
+        let most = most_of(k);
         let rest = tally_list(
             start,
             end,
             enabled,
             lprev,
             lnext,
-            ListIndex(k as u8),
+            least,
+            most,
             left,
             RecordIndex(heads[k]),
         );
@@ -185,6 +187,7 @@ pub fn lists_ok(
             return false;
         };
         left = records;
+        least = most + 1;
         k = k + 1;
     }
     left == 0

@@ -7,6 +7,7 @@ use mathlib.Core.Path.{_≡_, refl, sym, _∙_}
 use native.Mathlib.Omega.{arith}
 use native.Mathlib.Nat.{not-suc-le-zero}
 use borrow.Author.Tests.{leb-true, ltb-true, le-leb, lt-ltb, eqb-true, eq-eqb, ne-eqb}
+use lib.Bits.{bitOr}
 use lib.Dec.{eqb, leb, ltb}
 use lib.ListN.{getD}
 use Rattle.lists.specs.Links.{pick, none}
@@ -17,6 +18,7 @@ use Rattle.sound_records.specs.Records.{proper, unlinked, recordOk, all,
 use Rattle.sound_records.specs.declared.Tally.{Tally}
 use Rattle.sound_records.specs.declared.Tally.the-variants.{Of, Broken}
 use Rattle.sound_records.proofs.Tests.{and-true, true-and}
+use Rattle.sound_records.proofs.Bits.{zero-is-or}
 
 module _ (p : ℕ → Bool) where
   pub all-none : all p 0 ≡ true
@@ -74,13 +76,13 @@ module _ (start end previous next lprev lnext : ℕ) where
   unfolding recordOk
   in-use on u = rw u
 
-  pub stale-start : (on : Bool) → on ≡ false → start ≢ 0 → recordOk on start end previous next lprev lnext ≡ false
+  -- a number of its own
+  pub stale : (on : Bool) → on ≡ false → bitOr start end ≢ 0 → recordOk on start end previous next lprev lnext ≡ false
   unfolding recordOk
-  stale-start on u d = rw (u, ne-eqb start 0 d)
-
-  pub stale-end : (on : Bool) → on ≡ false → start ≡ 0 → end ≢ 0 → recordOk on start end previous next lprev lnext ≡ false
-  unfolding recordOk
-  stale-end on u e d = rw (u, eq-eqb start 0 e, ne-eqb end 0 d)
+  stale on u d =
+      ⊎-elim (λ (e : start ≡ 0). rw (u, eq-eqb start 0 e, ne-eqb end 0 (λ f. d (zero-is-or start end e f))))
+      (λ (e : start ≢ 0). rw (u, ne-eqb start 0 e))
+      (same? start 0)
 
   pub by-links : (on : Bool) → on ≡ false → start ≡ 0 → end ≡ 0 → recordOk on start end previous next lprev lnext ≡ unlinked previous next lprev lnext
   unfolding recordOk

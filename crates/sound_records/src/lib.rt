@@ -27,6 +27,7 @@ fn is_proper(start: Address, end: Address) -> bool
     end.0 < TOP
 }
 
+// NONE has every bit, so the four have every bit in common exactly where each of them is NONE.
 fn is_unlinked(
     previous: RecordIndex,
     next: RecordIndex,
@@ -35,16 +36,7 @@ fn is_unlinked(
 ) -> bool
     ensures { λ r. ⌜ r ≡ unlinked (previous .0) (next .0) (lprev .0) (lnext .0) ⌝ }
 {
-    if previous.0 != NONE {
-        return false;
-    }
-    if next.0 != NONE {
-        return false;
-    }
-    if lprev.0 != NONE {
-        return false;
-    }
-    lnext.0 == NONE
+    previous.0 & next.0 & lprev.0 & lnext.0 == NONE
 }
 
 // A record in use holds a proper range; an unused one is as in a new state.
@@ -62,10 +54,7 @@ fn record_ok(
     if enabled {
         return is_proper(start, end);
     }
-    if start.0 != 0 {
-        return false;
-    }
-    if end.0 != 0 {
+    if start.0 | end.0 != 0 {
         return false;
     }
     is_unlinked(previous, next, lprev, lnext)

@@ -7,7 +7,8 @@ use crate::MemoryError;
 #[path = "../../../include/cinghjalofa.rs"]
 mod library;
 
-pub(crate) use library::{ALLOCATE, CALL_WORDS, FREE, IMAGE_BYTES, PAGE_BYTES, RESERVE};
+pub(crate) use library::{ALLOCATE, ALLOCATE_PAGES, CALL_WORDS, FREE, FREE_PAGES, IMAGE_BYTES, PAGE_BYTES, RESERVE};
+pub(crate) use library::{Own, RECORDS};
 
 pub(crate) fn new(image: &mut [u8]) -> Result<(), MemoryError> {
     result_of(library::new(image)).map(|_| ())
@@ -33,8 +34,8 @@ pub(crate) fn free_pages(image: &mut [u8], address: usize, count: usize) -> Resu
     result_of(library::free_pages(image, address as u64, count as u64)).map(|_| ())
 }
 
-pub(crate) fn batch(image: &mut [u8], calls: &[u64], answers: &mut [i64]) -> Result<(), MemoryError> {
-    result_of(library::batch(image, calls, answers)).map(|_| ())
+pub(crate) fn batch(image: &mut [u8], calls: &[u64], answers: &mut [i64]) -> i64 {
+    library::batch(image, calls, answers)
 }
 
 /// An address, or minus the refusal number. The library gives no other number; one would mean another library, and

@@ -8,10 +8,12 @@ compile_error!("cinghjalofa: addresses have 64 bits");
 mod calls;
 mod image;
 mod list;
+mod owned;
 mod show;
 
 pub use image::{FreeRange, FreeRanges};
 pub use list::{Call, CallAnswer};
+pub use owned::{MemoryAllocator, UncheckedAllocator};
 
 use image::Image;
 
@@ -54,25 +56,6 @@ impl MemoryError {
     }
 }
 
-/// The allocator, with its image inside: what MiniVisor's `MemoryAllocator` is replaced by.
-///
-/// Its image is changed by the proved calls alone, so it is always sound. It is not `Clone`: two copies would hand out the
-/// same bytes.
-///
-/// ```
-/// use cinghjalofa::{MemoryAllocator, MemoryError};
-///
-/// let mut memory = MemoryAllocator::new();
-/// memory.free(0x10000, 0x10000)?;
-/// assert_eq!(memory.allocate(0x1000, 0), Ok(0x10000));
-/// assert_eq!(memory.allocate(0x2000, 14), Ok(0x14000));
-/// assert_eq!(memory.allocate(0x10000, 0), Err(MemoryError::NoMemory));
-/// # Ok::<(), MemoryError>(())
-/// ```
-pub struct MemoryAllocator {
-    image: Image,
-}
-
 /// The allocator over an image that somebody else keeps, in a page shared with a boot loader for instance.
 ///
 /// It cannot be made over bytes that are not sound, and while it lives nobody else can change them.
@@ -98,7 +81,7 @@ pub struct LentAllocator<'a> {
 /// either way. It works on a copy of the bytes.
 ///
 /// ```
-/// let image = *cinghjalofa::MemoryAllocator::new().image();
+/// let image = cinghjalofa::MemoryAllocator::new().image();
 /// assert!(cinghjalofa::is_sound(&image));
 /// assert!(!cinghjalofa::is_sound(&image[1..]));
 /// ```
@@ -107,127 +90,6 @@ pub fn is_sound(image: &[u8]) -> bool {
         // of a sound state the size 0 is refused, of any other the state
         Ok(mut copy) => calls::allocate(&mut copy, 0, 0) == Err(MemoryError::InvalidRequest),
         Err(_) => false,
-    }
-}
-
-impl MemoryAllocator {
-    /// The empty allocator. It needs no call, so a `static` may hold it.
-    pub const fn new() -> Self {
-        Self { image: image::EMPTY }
-    }
-
-    /// A copy of an image, or `InvalidEntry` where the bytes are not sound.
-    pub fn from_image(image: &[u8]) -> Result<Self, MemoryError> {
-        match Image::try_from(image) {
-            Ok(image) if is_sound(&image) => Ok(Self { image }),
-            _ => Err(MemoryError::InvalidEntry),
-        }
-    }
-
-    /// The image, to be stored or handed over.
-    pub const fn image(&self) -> &[u8; IMAGE_BYTES] {
-        &self.image
-    }
-
-    /// Takes `size` bytes at a multiple of 2^`align_order` (0: anywhere) from the smallest free range that fits, of equal
-    /// ones from the one that got its size last, and returns their address. A range that would fall into two is passed over
-    /// where all records are in use.
-    pub fn allocate(&mut self, size: usize, align_order: usize) -> Result<usize, MemoryError> {
-        calls::allocate(&mut self.image, size, align_order)
-    }
-
-    /// Takes these bytes, widened to multiples of 2^`align_order`, out of the free range that holds them all.
-    pub fn reserve_memory(&mut self, start_address: usize, size: usize, align_order: usize) -> Result<(), MemoryError> {
-        calls::reserve_memory(&mut self.image, start_address, size, align_order)
-    }
-
-    /// Gives bytes to the allocator, none of which may be free already.
-    pub fn free(&mut self, start: usize, size: usize) -> Result<(), MemoryError> {
-        calls::free(&mut self.image, start, size)
-    }
-
-    /// Takes `count` pages at a multiple of [`PAGE_BYTES`] and of 2^`align_order`, and returns the address of the first
-    /// byte: what [`MemoryAllocator::allocate`] answers to as many bytes at an order of at least 12. `InvalidRequest` for
-    /// 0 pages, for more than 2^51, and for an order above 63.
-    ///
-    /// ```
-    /// let mut memory = cinghjalofa::MemoryAllocator::new();
-    /// memory.free_pages(0x10000, 16).unwrap();
-    /// assert_eq!(memory.allocate_pages(1, 0), Ok(0x10000));
-    /// assert_eq!(memory.allocate_pages(2, 14), Ok(0x14000));
-    /// ```
-    pub fn allocate_pages(&mut self, count: usize, align_order: usize) -> Result<usize, MemoryError> {
-        calls::allocate_pages(&mut self.image, count, align_order)
-    }
-
-    /// Gives `count` pages to the allocator, no byte of which may be free already. `InvalidRequest` for an address that is
-    /// no multiple of [`PAGE_BYTES`], for 0 pages, and for more than 2^51.
-    pub fn free_pages(&mut self, address: usize, count: usize) -> Result<(), MemoryError> {
-        calls::free_pages(&mut self.image, address, count)
-    }
-
-    /// Serves a list of calls in order, and writes the answer of each to its place: the image is read, checked and written once.
-    /// The answers, and the image, are those of the calls made singly, wherever the list is cut.
-    /// `InvalidRequest`, and nothing changed, where there are fewer places than calls; places past the list stay as they are.
-    ///
-    /// ```
-    /// use cinghjalofa::{Call, CallAnswer, MemoryAllocator, MemoryError};
-    ///
-    /// let mut memory = MemoryAllocator::new();
-    /// let calls = [Call::free(0x10000, 0x10000), Call::allocate(0x1000, 0), Call::free(0x10000, 0)];
-    /// let mut answers = [CallAnswer::default(); 3];
-    /// memory.serve(&calls, &mut answers)?;
-    /// assert_eq!(answers[1].result(), Ok(0x10000));
-    /// assert_eq!(answers[2].result(), Err(MemoryError::InvalidRequest));
-    /// # Ok::<(), MemoryError>(())
-    /// ```
-    pub fn serve(&mut self, calls: &[Call], answers: &mut [CallAnswer]) -> Result<(), MemoryError> {
-        list::serve(&mut self.image, calls, answers)
-    }
-
-    /// The number of free bytes.
-    pub fn total(&self) -> usize {
-        image::total(&self.image)
-    }
-
-    /// The free ranges by address.
-    ///
-    /// ```
-    /// use cinghjalofa::{FreeRange, MemoryAllocator};
-    ///
-    /// let mut memory = MemoryAllocator::new();
-    /// memory.free(0x8000, 0x1000).unwrap();
-    /// memory.free(0x2000, 0x1000).unwrap();
-    /// let ranges = [FreeRange { start: 0x2000, last: 0x2fff }, FreeRange { start: 0x8000, last: 0x8fff }];
-    /// assert!(memory.ranges().eq(ranges));
-    /// ```
-    pub fn ranges(&self) -> FreeRanges<'_> {
-        FreeRanges::of(&self.image)
-    }
-
-    /// Writes first and last bytes of the free ranges, by address, to two slices and returns their number.
-    /// `InvalidRequest`, and nothing written, where a slice is too short; 64 places are always enough.
-    ///
-    /// ```
-    /// let mut memory = cinghjalofa::MemoryAllocator::new();
-    /// memory.free(0x8000, 0x1000).unwrap();
-    /// let (mut starts, mut lasts) = ([0; 64], [0; 64]);
-    /// assert_eq!(memory.listing(&mut starts, &mut lasts), Ok(1));
-    /// assert_eq!((starts[0], lasts[0]), (0x8000, 0x8fff));
-    /// ```
-    pub fn listing(&self, starts: &mut [usize], lasts: &mut [usize]) -> Result<usize, MemoryError> {
-        image::listing(&self.image, starts, lasts)
-    }
-
-    /// The proved check, run again: false only where something wrote over the allocator's memory.
-    pub fn is_sound(&self) -> bool {
-        is_sound(&self.image)
-    }
-}
-
-impl Default for MemoryAllocator {
-    fn default() -> Self {
-        Self::new()
     }
 }
 
@@ -280,8 +142,8 @@ impl<'a> LentAllocator<'a> {
     }
 
     /// See [`MemoryAllocator::serve`].
-    pub fn serve(&mut self, calls: &[Call], answers: &mut [CallAnswer]) -> Result<(), MemoryError> {
-        list::serve(self.image, calls, answers)
+    pub fn serve(&mut self, list: &[Call], answers: &mut [CallAnswer]) -> Result<(), MemoryError> {
+        list::serve(list, answers, |words, places| calls::batch(self.image, words, places))
     }
 
     /// See [`MemoryAllocator::total`].
@@ -296,7 +158,7 @@ impl<'a> LentAllocator<'a> {
 
     /// See [`MemoryAllocator::listing`].
     pub fn listing(&self, starts: &mut [usize], lasts: &mut [usize]) -> Result<usize, MemoryError> {
-        image::listing(self.image, starts, lasts)
+        image::listing(self.ranges(), starts, lasts)
     }
 
     /// See [`MemoryAllocator::is_sound`].

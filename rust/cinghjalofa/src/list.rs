@@ -37,8 +37,12 @@ impl CallAnswer {
     }
 }
 
-/// Lends the slices as the words that they are.
-pub(crate) fn serve(image: &mut [u8], list: &[Call], answers: &mut [CallAnswer]) -> Result<(), MemoryError> {
+/// Lends the slices as the words that they are, to what serves them.
+pub(crate) fn serve(
+    list: &[Call],
+    answers: &mut [CallAnswer],
+    by: impl FnOnce(&[u64], &mut [i64]) -> i64,
+) -> Result<(), MemoryError> {
     // never wraps: the slice's bytes are eight times as many
     let words = list.len().wrapping_mul(calls::CALL_WORDS);
     // SAFETY: a `Call` is four words and nothing else, and a `CallAnswer` one signed number (`repr(transparent)`), so that the
@@ -47,5 +51,5 @@ pub(crate) fn serve(image: &mut [u8], list: &[Call], answers: &mut [CallAnswer])
         let places = core::slice::from_raw_parts_mut(answers.as_mut_ptr().cast::<i64>(), answers.len());
         (core::slice::from_raw_parts(list.as_ptr().cast::<u64>(), words), places)
     };
-    calls::batch(image, words, places)
+    calls::result_of(by(words, places)).map(|_| ())
 }

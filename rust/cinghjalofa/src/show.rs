@@ -2,7 +2,7 @@
 
 use core::fmt;
 
-use crate::{FreeRanges, LentAllocator, MemoryAllocator, MemoryError};
+use crate::{FreeRanges, LentAllocator, MemoryAllocator, MemoryError, UncheckedAllocator};
 
 impl fmt::Display for MemoryError {
     fn fmt(&self, f: &mut fmt::Formatter<'_>) -> fmt::Result {
@@ -18,6 +18,12 @@ impl fmt::Display for MemoryError {
 impl fmt::Debug for MemoryAllocator {
     fn fmt(&self, f: &mut fmt::Formatter<'_>) -> fmt::Result {
         show("MemoryAllocator", self.total(), self.ranges(), f)
+    }
+}
+
+impl fmt::Debug for UncheckedAllocator {
+    fn fmt(&self, f: &mut fmt::Formatter<'_>) -> fmt::Result {
+        show("UncheckedAllocator", self.total(), self.ranges(), f)
     }
 }
 

@@ -14,14 +14,14 @@ fn with_three_ranges() -> MemoryAllocator {
 fn the_constant_image_is_the_one_that_the_library_writes() {
     let mut written = [0xa5; IMAGE_BYTES];
     LentAllocator::new(&mut written).unwrap();
-    assert_eq!(&written, MemoryAllocator::new().image());
+    assert_eq!(written, MemoryAllocator::new().image());
 }
 
 #[test]
 fn a_slice_of_another_length_is_refused_and_kept() {
     for length in [0, 1, IMAGE_BYTES - 1, IMAGE_BYTES + 1, 4096] {
         let mut bytes = vec![0xa5; length];
-        bytes.iter_mut().zip(MemoryAllocator::new().image()).for_each(|(to, from)| *to = *from);
+        bytes.iter_mut().zip(MemoryAllocator::new().image()).for_each(|(to, from)| *to = from);
         let before = bytes.clone();
         assert_eq!(LentAllocator::new(&mut bytes).err(), Some(MemoryError::InvalidEntry), "new over {length} bytes");
         assert_eq!(LentAllocator::from_image(&mut bytes).err(), Some(MemoryError::InvalidEntry), "{length} bytes");
@@ -33,7 +33,7 @@ fn a_slice_of_another_length_is_refused_and_kept() {
 /// Each byte of a sound image matters: with any one flipped there is no image, and the bytes stay as they were.
 #[test]
 fn every_flipped_byte_is_noticed() {
-    let sound = *with_three_ranges().image();
+    let sound = with_three_ranges().image();
     assert!(is_sound(&sound));
     for at in 0..IMAGE_BYTES {
         let mut image = sound;
@@ -48,7 +48,7 @@ fn every_flipped_byte_is_noticed() {
 #[test]
 fn owned_and_lent_go_on_with_one_another() {
     let mut owned = with_three_ranges();
-    let mut image = *owned.image();
+    let mut image = owned.image();
     let mut lent = LentAllocator::from_image(&mut image).unwrap();
     assert_eq!(lent.allocate(0x1000, 0), owned.allocate(0x1000, 0));
     assert_eq!(lent.reserve_memory(0x2000, 0x800, 0), owned.reserve_memory(0x2000, 0x800, 0));
@@ -59,6 +59,6 @@ fn owned_and_lent_go_on_with_one_another() {
     assert!(lent.ranges().eq(owned.ranges()));
     let (mut starts, mut lasts) = ([0; 64], [0; 64]);
     assert_eq!(lent.listing(&mut starts, &mut lasts), Ok(lent.ranges().count()));
-    assert_eq!(&image, owned.image());
+    assert_eq!(image, owned.image());
     assert_eq!(MemoryAllocator::from_image(&image).map(|copy| copy.total()), Ok(owned.total()));
 }

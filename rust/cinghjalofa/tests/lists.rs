@@ -88,5 +88,5 @@ fn a_lent_image_is_served_in_place() {
     LentAllocator::new(&mut image).unwrap().serve(&calls, &mut answers).unwrap();
     let mut memory = MemoryAllocator::new();
     assert_eq!(results(&answers), served(&mut memory, &calls));
-    assert_eq!(&image, memory.image());
+    assert_eq!(image, memory.image());
 }

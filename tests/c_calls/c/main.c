@@ -13,6 +13,7 @@ int main(int count, char **words)
     test_contract();
     test_cases(words[1]);
     test_lists();
+    test_own();
     printf("%lu calls, %lu failures\n", calls_made, failures);
     return failures ? 1 : 0;
 }

@@ -1,12 +1,14 @@
 //! The C calls from Rust: `driver contract CASES`, `driver damages` or `driver sweep`.
 //! Exit status 0: all as it must be; 1: something was not; 2: it could not be tried.
 
+#[path = "../../cases.rs"]
 mod cases;
 mod contract;
 mod damages;
 mod fields;
 mod judge;
 mod lent;
+mod play;
 mod report;
 mod rich;
 mod sweep;
@@ -19,7 +21,7 @@ fn main() -> ExitCode {
     let words: Vec<&str> = words.iter().map(String::as_str).collect();
     let mut report = Report::new();
     let ran = match words[..] {
-        ["contract", path] => contract::run(&mut report).and_then(|()| cases::run(path, &mut report)),
+        ["contract", path] => contract::run(&mut report).and_then(|()| play::run(path, &mut report)),
         ["damages"] => damages::run(&mut report),
         ["sweep"] => sweep::run(&mut report),
         _ => Err("usage: driver contract CASES | driver damages | driver sweep".to_string()),

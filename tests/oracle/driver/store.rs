@@ -4,11 +4,13 @@
 
 mod bench;
 mod call;
+#[path = "../../cases.rs"]
 mod cases;
 mod domain;
 mod generate;
 mod judges;
 mod kind;
+mod named;
 mod profile;
 mod rng;
 mod shape;
@@ -18,8 +20,8 @@ use std::path::Path;
 use std::process::ExitCode;
 
 use bench::{Bench, NoRuling};
-use call::Call;
 use generate::Generator;
+use named::Named;
 use profile::{Profile, PROFILES};
 use rng::Rng;
 use stored::{StoredHistory, HEADER};
@@ -31,14 +33,15 @@ const PATIENCE: usize = 50;
 
 fn main() -> ExitCode {
     judges::silence_assertions();
-    let folder = match std::env::args().nth(1) {
-        Some(folder) => folder,
-        None => {
-            eprintln!("store: name the folder to write to");
+    let words: Vec<String> = std::env::args().skip(1).collect();
+    let (folder, table) = match &words[..] {
+        [folder, table] => (folder, table),
+        _ => {
+            eprintln!("store: name the folder to write to, and the table of cases");
             return ExitCode::from(2);
         }
     };
-    match store_all(Path::new(&folder)) {
+    match store_all(Path::new(folder), table) {
         Ok(()) => ExitCode::SUCCESS,
         Err(what) => {
             eprintln!("store: {what}");
@@ -47,9 +50,9 @@ fn main() -> ExitCode {
     }
 }
 
-fn store_all(folder: &Path) -> Result<(), String> {
-    let cases = cases::named()?;
-    let named: Result<Vec<_>, String> = cases.iter().map(|(name, history)| judge(name, history)).collect();
+fn store_all(folder: &Path, table: &str) -> Result<(), String> {
+    let table = cases::read(table)?;
+    let named: Result<Vec<_>, String> = named::histories(&table)?.iter().map(judge).collect();
     write_file(folder, "cases", &named?)?;
     for (number, profile) in PROFILES.iter().enumerate() {
         let histories = (0..HISTORIES_PER_PROFILE).map(|at| at * PROFILES.len() as u64 + number as u64);
@@ -67,11 +70,17 @@ fn write_file(folder: &Path, name: &str, histories: &[StoredHistory]) -> Result<
     std::fs::write(&path, format!("{HEADER}{text}")).map_err(|e| format!("{}: {e}", path.display()))
 }
 
-fn judge(name: &str, history: &[Call]) -> Result<StoredHistory, String> {
+/// What the Rust answers to a case must be what the table says.
+fn judge(history: &Named) -> Result<StoredHistory, String> {
     let mut bench = Bench::new();
+    let name = history.name;
     let mut stored = StoredHistory::new(name.to_string());
-    for &call in history {
+    for &(call, told) in &history.calls {
         match bench.play(call) {
+            Ok(ruling) if ruling.answer != told => {
+                let (answer, told) = (ruling.answer.printed_for(&call), told.printed_for(&call));
+                return Err(format!("{name}: `{call}`: the Rust says `{answer}`, the table `{told}`"));
+            }
             Ok(ruling) => stored.add(call, ruling.answer, &ruling.shape),
             Err(NoRuling::Outside(why)) => return Err(format!("{name}: `{call}` leaves the domain: {why:?}")),
             Err(NoRuling::Quarrel(text)) => return Err(format!("{name}: the judges differ at {text}")),

@@ -1,13 +1,13 @@
-/* Plays document 01's script and a long list of calls, some of them over damaged images, and prints what came of them.
- * It needs no C library, so that the kit's own clang and linker make it for either kind of machine; the two must print
- * the same. */
+/* Plays the script's example, crates/script/stdin, and a long list of calls, some of them over damaged images, and prints
+ * what came of them. It needs no C library, so that the kit's own clang and linker make it for either kind of machine; the
+ * two must print the same. */
 
 typedef unsigned char uint8_t;
 typedef unsigned long size_t;
 typedef unsigned long uint64_t;
 typedef long int64_t;
 
-enum { IMAGE = 1370, SCRIPT = 10, ROUNDS = 16, CALLS_IN_A_ROUND = 2000 };
+enum { IMAGE = 1370, ROUNDS = 16, CALLS_IN_A_ROUND = 2000 };
 
 int64_t cinghjalofa_new(uint8_t *image, size_t len);
 int64_t cinghjalofa_allocate(uint8_t *image, size_t len, uint64_t size, uint64_t order);
@@ -21,10 +21,10 @@ struct call {
     uint64_t start, size, order;
 };
 
-static const struct call script[SCRIPT] = {
-    {'f', 65536, 65536, 0}, {'a', 0, 4096, 0},   {'a', 0, 8192, 14},  {'f', 65536, 4096, 0},      {'f', 81920, 4096, 0},
-    {'f', 86016, 4096, 0},  {'a', 0, 65536, 0},  {'r', 65536, 65536, 0}, {'f', 131071, 2, 0}, {'r', 70000, 100, 12},
+static const struct call script[] = {
+#include "script.h" /* made by `check` */
 };
+enum { SCRIPT = sizeof script / sizeof *script };
 
 /* What the compiler may call by itself. */
 void *memcpy(void *to, const void *from, size_t count) {

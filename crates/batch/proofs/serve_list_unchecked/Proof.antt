@@ -1,28 +1,32 @@
+use mathlib.Core.Path.{sym, _∙_}
 use borrow.Author.Needs.{needs}
 use Rattle.state.specs.Shown.{pool}
-use Rattle.batch.proofs.Ways.{fits, part-of-a-call, too-short, unfitted, done}
+use Rattle.batch.proofs.Ways.{unfitted, done}
 use Rattle.batch.proofs.serve_list_unchecked.Statement.{statement}
 use Rattle.batch.proofs.serve_list_unchecked.Tie as tie
 
-returns : tie.Need-returns
-returns c = unfitted pool _ _ _ (c .before .before .pre) (part-of-a-call _ _ (c .if1 .taken))
-
-returns-2 : tie.Need-returns-2
-returns-2 c = unfitted pool _ _ _ (c .before .before .before .pre) (too-short _ _ (c .before .if1 .left) (c .if2 .taken))
+list-fits-requires : tie.Need-list-fits-requires
+list-fits-requires c κs = search needs
 
 serve-list-sound-requires : tie.Need-serve-list-sound-requires
-serve-list-sound-requires c κs = let placed = c .before in (placed .before .before .before .pre, fits _ _ (placed .before .if1 .left) (placed .if2 .left))
+serve-list-sound-requires c κs =
+    let fitting = c .before in
+    let tested = fitting .before in
+    (tested .before .before .pre, sym (tested .list-fits .ensures) ∙ fitting .if1 .taken)
 
 same-length : tie.Need-same-length
 same-length c = search needs
 
-returns-3 : tie.Need-returns-3
-returns-3 c =
+returns : tie.Need-returns
+returns c =
     let served = c .before in
-    let placed = served .before .before in
-    let start = placed .before .before .before in
-    done pool _ _ _ (start .pre) _ _ (fits _ _ (placed .before .if1 .left) (placed .if2 .left)) (served .serve-list-sound .ensures)
+    let fitting = served .before .before in
+    let tested = fitting .before in
+    done pool _ _ _ (tested .before .before .pre) _ _ (sym (tested .list-fits .ensures) ∙ fitting .if1 .taken) (served .serve-list-sound .ensures)
+
+returns-2 : tie.Need-returns-2
+returns-2 c = let tested = c .before in unfitted pool _ _ _ (tested .before .before .pre) (sym (tested .list-fits .ensures) ∙ c .if1 .left)
 
 pub serve-list-unchecked-spec : {M : Type 1} → statement M
 serve-list-unchecked-spec =
-    tie.close (tie.spec returns returns-2 serve-list-sound-requires same-length returns-3)
+    tie.close (tie.spec list-fits-requires serve-list-sound-requires same-length returns returns-2)

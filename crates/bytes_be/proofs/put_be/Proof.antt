@@ -1,11 +1,10 @@
 use mathlib.Core.Path.{_≡_, refl, _∙_}
-use mathlib.Core.List.{_++_, append-nil}
+use mathlib.Core.List.{_++_}
 use Prim.Native.Nat.{_≤_}
 use native.Mathlib.Omega.{arith}
 use lib.ListN.{length, drop, length-set}
-use lib.Seq.{drop-length}
 use Rattle.bytes_be.specs.Numbers.{be}
-use Rattle.bytes_be.proofs.Loops.{put-before}
+use Rattle.bytes_be.proofs.Loops.{put-start, put-before}
 use Rattle.bytes_be.proofs.put_be.Statement.{statement}
 use Rattle.bytes_be.proofs.put_be.Tie as tie
 
@@ -16,7 +15,7 @@ abbrev μ-loop : tie.MeasureT-loop
 μ-loop part₀ x rest₀ i₀ part rest i = i
 
 loop-holds : tie.Need-loop-holds Inv-loop μ-loop
-loop-holds c = (omega arith, (refl, rw (drop-length, append-nil)))
+loop-holds c = (omega arith, (refl, put-start (c .args .part .now) _ (c .args .x) refl))
 
 sub-i : tie.Need-sub-i Inv-loop μ-loop
 sub-i c = omega arith

@@ -1,23 +1,15 @@
-use borrow.Author.Tests.{eq-eqb, ne-eqb}
+use Rattle.lists.specs.Links.{none}
 use Rattle.sound_records.specs.Records.{unlinked}
+use Rattle.sound_records.proofs.Bits.{four-are-most}
+use Rattle.sound_records.proofs.Owned.{owned-link}
 use Rattle.sound_records.proofs.is_unlinked.Statement.{statement}
 use Rattle.sound_records.proofs.is_unlinked.Tie as tie
 
 returns : tie.Need-returns
 unfolding unlinked
-returns c = rw (ne-eqb _ _ (c .if1 .taken))
-
-returns-2 : tie.Need-returns-2
-unfolding unlinked
-returns-2 c = rw (eq-eqb _ _ (c .before .before .if1 .left), ne-eqb _ _ (c .if2 .taken))
-
-returns-3 : tie.Need-returns-3
-unfolding unlinked
-returns-3 c = rw (eq-eqb _ _ (c .before .before .before .before .if1 .left), eq-eqb _ _ (c .before .before .if2 .left), ne-eqb _ _ (c .if3 .taken))
-
-returns-4 : tie.Need-returns-4
-unfolding unlinked
-returns-4 c = rw (eq-eqb _ _ (c .before .before .before .before .before .if1 .left), eq-eqb _ _ (c .before .before .before .if2 .left), eq-eqb _ _ (c .before .if3 .left))
+returns c =
+    let good = c .before .before .before .before .good in
+    four-are-most none _ _ _ _ (owned-link _ _ (good .0)) (owned-link _ _ (good .1 .0)) (owned-link _ _ (good .1 .1 .0)) (owned-link _ _ (good .1 .1 .1 .0))
 
 pub is-unlinked-spec : {M : Type 1} → statement M
-is-unlinked-spec = tie.close (tie.spec returns returns-2 returns-3 returns-4)
+is-unlinked-spec = tie.close (tie.spec returns)

@@ -5,7 +5,7 @@ use mir.Syntax.{w64}
 use mir.Val.{toZ, ofZ}
 use mir.Facts.{toZ-ofZ}
 use Rattle.image_parts.specs.Layout.{current}
-use Rattle.image.proofs.Fitting.{lawful-current}
+use Rattle.image_parts.proofs.Lawful.{lawful-current}
 use Rattle.batch.specs.InWords.{wordsOf}
 use Rattle.c_calls.specs.CCalls.{returned}
 use Rattle.c_calls.specs.Lists.{BatchOver}

@@ -34,6 +34,18 @@ part-put-be-end-2 c = omega arith
 put-be-requires-2 : tie.Need-put-be-requires-2
 put-be-requires-2 c κs = tt
 
+sub-put-word : tie.Need-sub-put-word
+sub-put-word c = omega arith
+
+part-put-word-start : tie.Need-part-put-word-start
+part-put-word-start c = omega arith
+
+part-put-word-end : tie.Need-part-put-word-end
+part-put-word-end c = omega arith
+
+put-word-requires : tie.Need-put-word-requires
+put-word-requires c κs = search needs
+
 sub-put-be-3 : tie.Need-sub-put-be-3
 sub-put-be-3 c = omega arith
 
@@ -43,23 +55,11 @@ part-put-be-start-3 c = omega arith
 part-put-be-end-3 : tie.Need-part-put-be-end-3
 part-put-be-end-3 c = omega arith
 
-put-be-requires-3 : tie.Need-put-be-requires-3
-put-be-requires-3 c κs = tt
-
-sub-put-be-4 : tie.Need-sub-put-be-4
-sub-put-be-4 c = omega arith
-
-part-put-be-start-4 : tie.Need-part-put-be-start-4
-part-put-be-start-4 c = omega arith
-
-part-put-be-end-4 : tie.Need-part-put-be-end-4
-part-put-be-end-4 c = omega arith
-
 link-number-requires : tie.Need-link-number-requires
 link-number-requires c κs = tt
 
-put-be-requires-4 : tie.Need-put-be-requires-4
-put-be-requires-4 c κs = tt
+put-be-requires-3 : tie.Need-put-be-requires-3
+put-be-requires-3 c κs = tt
 
 sub-write-links : tie.Need-sub-write-links
 sub-write-links c = omega arith
@@ -86,8 +86,8 @@ returns c =
     let xs = c₁ .before .before .before .args .part .now in
     let s₁ = put-number xs [] _ _ 0 lengthAt _ _ (omega arith) (begin xs) (c₁ .put-be .ensures) refl in
     let s₂ = put-number xs _ _ _ lengthAt lengthSize _ _ (omega arith) s₁ (c₂ .put-be2 .ensures) refl in
-    let s₃ = put-number xs _ _ _ totalAt word _ _ (omega arith) s₂ (c₃ .put-be3 .ensures) refl in
-    let s₄ = put-number xs _ _ _ firstAt (current .link) _ _ (omega arith) s₃ (c₄ .put-be4 .ensures) (c₄ .before .link-number .ensures) in
+    let s₃ = put-number xs _ _ _ totalAt word _ _ (omega arith) s₂ (c₃ .put-word .ensures) refl in
+    let s₄ = put-number xs _ _ _ firstAt (current .link) _ _ (omega arith) s₃ (c₄ .put-be3 .ensures) (c₄ .before .link-number .ensures) in
     put-last xs _ _ _ _ (headsAt current) (current .link * sizeLists) (omega arith) s₄ (c .before .before .write-links .ensures) ∙ simp append-assoc
 
 pub write-head-spec : {M : Type 1} → statement M
@@ -102,15 +102,15 @@ write-head-spec =
     part-put-be-start-2
     part-put-be-end-2
     put-be-requires-2
+    sub-put-word
+    part-put-word-start
+    part-put-word-end
+    put-word-requires
     sub-put-be-3
     part-put-be-start-3
     part-put-be-end-3
-    put-be-requires-3
-    sub-put-be-4
-    part-put-be-start-4
-    part-put-be-end-4
     link-number-requires
-    put-be-requires-4
+    put-be-requires-3
     sub-write-links
     part-write-links-start
     part-write-links-end

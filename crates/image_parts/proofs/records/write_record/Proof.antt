@@ -9,6 +9,30 @@ use borrow.Author.Needs.{needs}
 use Rattle.image_parts.proofs.records.write_record.Statement.{statement}
 use Rattle.image_parts.proofs.records.write_record.Tie as tie
 
+sub-put-word : tie.Need-sub-put-word
+sub-put-word c = omega arith
+
+part-put-word-start : tie.Need-part-put-word-start
+part-put-word-start c = omega arith
+
+part-put-word-end : tie.Need-part-put-word-end
+part-put-word-end c = omega arith
+
+put-word-requires : tie.Need-put-word-requires
+put-word-requires c κs = search needs
+
+sub-put-word-2 : tie.Need-sub-put-word-2
+sub-put-word-2 c = omega arith
+
+part-put-word-start-2 : tie.Need-part-put-word-start-2
+part-put-word-start-2 c = omega arith
+
+part-put-word-end-2 : tie.Need-part-put-word-end-2
+part-put-word-end-2 c = omega arith
+
+put-word-requires-2 : tie.Need-put-word-requires-2
+put-word-requires-2 c κs = search needs
+
 sub-put-be : tie.Need-sub-put-be
 sub-put-be c = omega arith
 
@@ -18,35 +42,11 @@ part-put-be-start c = omega arith
 part-put-be-end : tie.Need-part-put-be-end
 part-put-be-end c = omega arith
 
-put-be-requires : tie.Need-put-be-requires
-put-be-requires c κs = tt
-
-sub-put-be-2 : tie.Need-sub-put-be-2
-sub-put-be-2 c = omega arith
-
-part-put-be-start-2 : tie.Need-part-put-be-start-2
-part-put-be-start-2 c = omega arith
-
-part-put-be-end-2 : tie.Need-part-put-be-end-2
-part-put-be-end-2 c = omega arith
-
-put-be-requires-2 : tie.Need-put-be-requires-2
-put-be-requires-2 c κs = tt
-
-sub-put-be-3 : tie.Need-sub-put-be-3
-sub-put-be-3 c = omega arith
-
-part-put-be-start-3 : tie.Need-part-put-be-start-3
-part-put-be-start-3 c = omega arith
-
-part-put-be-end-3 : tie.Need-part-put-be-end-3
-part-put-be-end-3 c = omega arith
-
 flag-number-requires : tie.Need-flag-number-requires
 flag-number-requires c κs = tt
 
-put-be-requires-3 : tie.Need-put-be-requires-3
-put-be-requires-3 c κs = tt
+put-be-requires : tie.Need-put-be-requires
+put-be-requires c κs = tt
 
 sub-write-links : tie.Need-sub-write-links
 sub-write-links c = omega arith
@@ -73,28 +73,28 @@ returns c =
     let c₂ = c₃ .before .before .before .before .before in
     let c₁ = c₂ .before .before .before .before in
     let xs = c₁ .before .before .before .args .part .now in
-    let s₁ = put-number xs [] _ _ 0 word _ _ (omega arith) (begin xs) (c₁ .put-be .ensures) refl in
-    let s₂ = put-number xs _ _ _ endAt word _ _ (omega arith) s₁ (c₂ .put-be2 .ensures) refl in
-    let s₃ = put-number xs _ _ _ enabledAt 1 _ _ (omega arith) s₂ (c₃ .put-be3 .ensures) (c₃ .before .flag-number .ensures) in
+    let s₁ = put-number xs [] _ _ 0 word _ _ (omega arith) (begin xs) (c₁ .put-word .ensures) refl in
+    let s₂ = put-number xs _ _ _ endAt word _ _ (omega arith) s₁ (c₂ .put-word2 .ensures) refl in
+    let s₃ = put-number xs _ _ _ enabledAt 1 _ _ (omega arith) s₂ (c₃ .put-be .ensures) (c₃ .before .flag-number .ensures) in
     put-last xs _ _ _ _ linksAt (current .link * 4) (omega arith) s₃ (c .before .before .write-links .ensures) ∙ simp append-assoc
 
 pub write-record-spec : {M : Type 1} → statement M
 write-record-spec =
     tie.close
     (tie.spec
+    sub-put-word
+    part-put-word-start
+    part-put-word-end
+    put-word-requires
+    sub-put-word-2
+    part-put-word-start-2
+    part-put-word-end-2
+    put-word-requires-2
     sub-put-be
     part-put-be-start
     part-put-be-end
-    put-be-requires
-    sub-put-be-2
-    part-put-be-start-2
-    part-put-be-end-2
-    put-be-requires-2
-    sub-put-be-3
-    part-put-be-start-3
-    part-put-be-end-3
     flag-number-requires
-    put-be-requires-3
+    put-be-requires
     sub-write-links
     part-write-links-start
     part-write-links-end

@@ -1,10 +1,11 @@
-//! The crate in the place of the module: calling_code.rs over both, on the same random histories inside document 01's
-//! domain. Acceptances and addresses must be equal, but for a take of the last bytes and one that looks on where all records
-//! are used, which the module refuses and the crate accepts: there a history leaves the domain and ends. Refusal numbers follow the Rust's drifted `free_size` and are
+//! The crate in the place of the module: calling_code.rs over the module and over the crate's two allocators, the one that
+//! checks its state at each call and the one that does not, on the same random histories inside document 01's domain.
+//! Acceptances and addresses must be equal, but for a take of the last bytes and one that looks on where all records are
+//! used, which the module refuses and the crate accepts: there a history leaves the domain and ends. Refusal numbers follow the Rust's drifted `free_size` and are
 //! compared in tests/oracle, by a copy that counts rightly; here the crate's are held to the oracle's model.
 
 #![allow(dead_code)] // of the oracle's files a part is used
-#![allow(clippy::duplicate_mod)] // calling_code.rs is compiled twice on purpose
+#![allow(clippy::duplicate_mod)] // calling_code.rs is compiled three times on purpose
 
 #[path = "../../../../oracle/driver/call.rs"]
 mod call;
@@ -35,6 +36,15 @@ mod with_the_crate {
     pub mod calling_code;
 }
 
+#[path = "."]
+mod with_the_unchecked_one {
+    mod allocator {
+        pub use cinghjalofa::{MemoryError, UncheckedAllocator as MemoryAllocator};
+    }
+    #[path = "calling_code.rs"]
+    pub mod calling_code;
+}
+
 use call::{Answer, Call};
 use domain::{Model, Outside};
 use generate::Generator;
@@ -43,6 +53,7 @@ use profile::PROFILES;
 use rng::Rng;
 use with_the_crate::calling_code as the_crate;
 use with_the_module::calling_code as the_module;
+use with_the_unchecked_one::calling_code as the_unchecked_one;
 
 const HISTORIES: u64 = 900;
 const MOST_CALLS_IN_A_HISTORY: u64 = 240;
@@ -66,6 +77,7 @@ fn play_history(number: u64, seen: &mut Vec<Kind>) {
     let (mut history, mut outside) = (Vec::new(), 0);
     the_module::reset();
     the_crate::reset();
+    the_unchecked_one::reset();
     let length = generator.history_length(MOST_CALLS_IN_A_HISTORY) as usize;
     while history.len() < length && outside < PATIENCE {
         let call = generator.propose(&model);
@@ -118,6 +130,8 @@ fn compare(history: &[Call], call: Call, foreseen: Answer) {
         lines(history)
     );
     assert_eq!(ours, foreseen, "the crate's answer, and the model's, to the last of\n{}", lines(history));
+    let unchecked = the_unchecked_one::play(call);
+    assert_eq!(unchecked, foreseen, "the unchecked answer, and the model's, to the last of\n{}", lines(history));
 }
 
 fn part(history: &[Call], call: Call, foreseen: Answer) {
@@ -125,6 +139,8 @@ fn part(history: &[Call], call: Call, foreseen: Answer) {
     let module_refuses = matches!(module, Answer::Refused(_));
     assert!(module_refuses, "the module answers {module:?} to the last of\n{}", lines(history));
     assert_eq!(ours, foreseen, "the crate's answer, and the model's, to the last of\n{}", lines(history));
+    let unchecked = the_unchecked_one::play(call);
+    assert_eq!(unchecked, foreseen, "the unchecked answer, and the model's, to the last of\n{}", lines(history));
 }
 
 fn lines(history: &[Call]) -> String {

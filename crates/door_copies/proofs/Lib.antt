@@ -1,0 +1,2 @@
+-- Laws of the calls that copy a state of one's own.
+pub mod Copies

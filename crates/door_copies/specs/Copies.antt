@@ -1,0 +1,35 @@
+-- What the calls that copy a state of one's own answer and leave. n is the number of records, f the layout of an image. Assumes nothing.
+use Prim.Native.Nat.{ℕ}
+use mathlib.Core.Bool.{cond}
+use mathlib.Core.List.{List}
+use mathlib.Core.Path.{_≡_}
+use lib.Dec.{eqb}
+use lib.IntN.{ℤ, pos, negℤ}
+use lib.ListN.{length}
+use Rattle.state.specs.declared.MemoryAllocator.{MemoryAllocator}
+use Rattle.calls.specs.Calls.{signedOf}
+use Rattle.calls.specs.declared.Answer.the-variants.{Accepted, InvalidEntry}
+use Rattle.calls.specs.declared.Outcome.{Outcome}
+use Rattle.batch.specs.Lists.{listServed, answered}
+use Rattle.image_parts.specs.Layout.{Layout}
+use Rattle.image.specs.Reading.{readingOf}
+use Rattle.image.specs.Writing.{writingOf}
+
+-- a list l of calls, with its places: r is what it is answered, s′ the state that it leaves, and the places hold the answers
+pub record Lists (n : ℕ) (s : MemoryAllocator) (l : List ℕ) (old : List ℤ) (r : ℤ) (s′ : MemoryAllocator) (now : List ℤ) : Type 0 where
+  pub number : r ≡ signedOf (listServed n s l (length old) .answer)
+  pub state : s′ ≡ listServed n s l (length old) .state
+  pub answers : now ≡ answered n s l old
+
+-- the state that the image l holds; where it holds none, InvalidEntry and the state as it was
+unfoldable pub imported : Layout → List ℕ → MemoryAllocator → Outcome
+imported f l s = cond (eqb (readingOf f l .number) 0) (record { answer = Accepted (record { 0 = 0 }); state = readingOf f l .state }) (record { answer = InvalidEntry; state = s })
+
+pub record Imports (f : Layout) (l : List ℕ) (r : ℤ) (s s′ : MemoryAllocator) : Type 0 where
+  pub number : r ≡ signedOf (imported f l s .answer)
+  pub state : s′ ≡ imported f l s .state
+
+-- what writing the image over the bytes l answers, as a signed number, and the bytes that it leaves
+pub record Exports (f : Layout) (s : MemoryAllocator) (l : List ℕ) (r : ℤ) (l′ : List ℕ) : Type 0 where
+  pub number : r ≡ negℤ (pos (writingOf f s l .number))
+  pub bytes : l′ ≡ writingOf f s l .bytes

@@ -1,0 +1,2 @@
+-- What the contracts of the calls that copy a state of one's own cite.
+pub mod Copies

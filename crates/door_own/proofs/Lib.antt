@@ -1,0 +1,2 @@
+-- Laws of the calls on a state of one's own.
+pub mod Own

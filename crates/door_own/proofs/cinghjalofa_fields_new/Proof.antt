@@ -1,0 +1,10 @@
+use Rattle.state.specs.Shown.{pool}
+use Rattle.state.proofs.States.{fresh-state}
+use Rattle.door_own.proofs.cinghjalofa_fields_new.Statement.{statement}
+use Rattle.door_own.proofs.cinghjalofa_fields_new.Tie as tie
+
+returns : tie.Need-returns
+returns c = fresh-state pool
+
+pub cinghjalofa-fields-new-spec : {M : Type 1} → statement M
+cinghjalofa-fields-new-spec = tie.close (tie.spec returns)

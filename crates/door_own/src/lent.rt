@@ -1,0 +1,79 @@
+// The check of ten lent fields.
+use sound::is_sound_in;
+use state::LISTS;
+use state::POOL;
+use state::RecordIndex;
+ghost use mathlib.Core.Path.{_≡_};
+ghost use Rattle.state.specs.Lent.{was};
+ghost use Rattle.state.specs.Shown.{pool};
+ghost use Rattle.state.specs.State.{arrays};
+ghost use Rattle.door_own.specs.Own.{isSized, soundHere};
+
+// Whether the arrays have as many places as their types say. They do, and the compiler leaves the question out; but of an array behind a
+// reference the logic does not know it.
+fn is_sized(
+    heads: &[u16],
+    start: &[u64],
+    end: &[u64],
+    enabled: &[bool],
+    previous: &[u16],
+    next: &[u16],
+    lprev: &[u16],
+    lnext: &[u16],
+) -> bool
+    ensures { λ r. ⌜ r ≡ isSized pool (arrays 0 0 (was heads) (was start) (was end) (was enabled) (was previous) (was next) (was lprev) (was lnext)) ⌝ }
+{
+    if heads.len() != LISTS {
+        return false;
+    }
+    if start.len() != POOL {
+        return false;
+    }
+    if end.len() != POOL {
+        return false;
+    }
+    if enabled.len() != POOL {
+        return false;
+    }
+    if previous.len() != POOL {
+        return false;
+    }
+    if next.len() != POOL {
+        return false;
+    }
+    if lprev.len() != POOL {
+        return false;
+    }
+    lnext.len() == POOL
+}
+
+pub fn is_sound_lent(
+    total: u64,
+    first: u16,
+    heads: &[u16; LISTS],
+    start: &[u64; POOL],
+    end: &[u64; POOL],
+    enabled: &[bool; POOL],
+    previous: &[u16; POOL],
+    next: &[u16; POOL],
+    lprev: &[u16; POOL],
+    lnext: &[u16; POOL],
+) -> bool
+    ensures { λ r. ⌜ r ≡ soundHere pool (arrays total first (was heads) (was start) (was end) (was enabled) (was previous) (was next) (was lprev) (was lnext)) ⌝ }
+{
+    if is_sized(heads, start, end, enabled, previous, next, lprev, lnext) {
+        return is_sound_in(
+            total,
+            RecordIndex(first),
+            heads,
+            start,
+            end,
+            enabled,
+            previous,
+            next,
+            lprev,
+            lnext,
+        );
+    }
+    false
+}

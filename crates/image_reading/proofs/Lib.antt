@@ -1,0 +1,4 @@
+-- Laws of reading an image.
+pub mod Tests
+pub mod Decoding
+pub mod Whole

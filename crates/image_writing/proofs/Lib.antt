@@ -1,0 +1,2 @@
+-- Laws of writing an image.
+pub mod Renewing

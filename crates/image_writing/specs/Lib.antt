@@ -1,0 +1,2 @@
+-- What the contracts cite of writing an image.
+pub mod Writing

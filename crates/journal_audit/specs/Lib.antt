@@ -1,0 +1,3 @@
+-- What an audit answers, and the vouchers of a journal.
+pub mod Audit
+pub mod Vouchers

@@ -1,0 +1,2 @@
+-- What the journal's calls answer, and what they leave in what is lent.
+pub mod Calls

@@ -1,0 +1,253 @@
+//! The two allocators that own their state: one asks at each call whether it is sound, one does not.
+
+use crate::calls::{result_of, Own, ALLOCATE, ALLOCATE_PAGES, FREE, FREE_PAGES, RESERVE};
+use crate::image::{self, FreeRanges};
+use crate::list::{self, Call, CallAnswer};
+use crate::{MemoryError, IMAGE_BYTES};
+
+/// The allocator, with its state inside: what MiniVisor's `MemoryAllocator` is replaced by.
+///
+/// Each call asks first whether the state is sound. So a stray write into the allocator's memory is answered
+/// `InvalidEntry`, unless it happens to make another sound state. It is not `Clone`: two copies would hand out the same bytes.
+///
+/// ```
+/// use cinghjalofa::{MemoryAllocator, MemoryError};
+///
+/// let mut memory = MemoryAllocator::new();
+/// memory.free(0x10000, 0x10000)?;
+/// assert_eq!(memory.allocate(0x1000, 0), Ok(0x10000));
+/// assert_eq!(memory.allocate(0x2000, 14), Ok(0x14000));
+/// assert_eq!(memory.allocate(0x10000, 0), Err(MemoryError::NoMemory));
+/// # Ok::<(), MemoryError>(())
+/// ```
+pub struct MemoryAllocator {
+    own: Own,
+}
+
+/// The same allocator, with the same calls and answers, which trusts its memory: no call but a list asks whether the state is
+/// sound, and so each takes about as long as the module's.
+///
+/// The state is private, it is made by `new` or by a checked `from_image`, and proved calls alone change it: so it is sound,
+/// unless something writes over the allocator's memory, by `unsafe` code or from outside the program. After such a write
+/// nothing is promised. [`UncheckedAllocator::is_sound`] asks.
+///
+/// ```
+/// use cinghjalofa::{MemoryError, UncheckedAllocator};
+///
+/// let mut memory = UncheckedAllocator::new();
+/// memory.free(0x10000, 0x10000)?;
+/// assert_eq!(memory.allocate(0x1000, 0), Ok(0x10000));
+/// assert!(memory.is_sound()); // as often as the author likes
+/// # Ok::<(), MemoryError>(())
+/// ```
+pub struct UncheckedAllocator {
+    own: Own,
+}
+
+impl MemoryAllocator {
+    /// The empty allocator. It needs no call, so a `static` may hold it.
+    pub const fn new() -> Self {
+        Self { own: Own::new() }
+    }
+
+    /// The allocator of an image, or `InvalidEntry` where the bytes are not sound.
+    pub fn from_image(image: &[u8]) -> Result<Self, MemoryError> {
+        let mut own = Own::new();
+        result_of(own.import(image))?;
+        Ok(Self { own })
+    }
+
+    /// The image, to be stored or handed over. Of a state that is not sound there is none: then all bytes are 0, which no
+    /// reader takes.
+    pub fn image(&self) -> [u8; IMAGE_BYTES] {
+        let mut image = [0; IMAGE_BYTES];
+        self.own.export(&mut image);
+        image
+    }
+
+    /// Takes `size` bytes at a multiple of 2^`align_order` (0: anywhere) from the smallest free range that fits, of equal
+    /// ones from the one that got its size last, and returns their address. A range that would fall into two is passed over
+    /// where all records are in use.
+    pub fn allocate(&mut self, size: usize, align_order: usize) -> Result<usize, MemoryError> {
+        self.call(ALLOCATE, size, align_order, 0)
+    }
+
+    /// Takes these bytes, widened to multiples of 2^`align_order`, out of the free range that holds them all.
+    pub fn reserve_memory(&mut self, start_address: usize, size: usize, align_order: usize) -> Result<(), MemoryError> {
+        self.call(RESERVE, start_address, size, align_order).map(|_| ())
+    }
+
+    /// Gives bytes to the allocator, none of which may be free already.
+    pub fn free(&mut self, start: usize, size: usize) -> Result<(), MemoryError> {
+        self.call(FREE, start, size, 0).map(|_| ())
+    }
+
+    /// Takes `count` pages at a multiple of [`PAGE_BYTES`](crate::PAGE_BYTES) and of 2^`align_order`, and returns the address
+    /// of the first byte: what [`MemoryAllocator::allocate`] answers to as many bytes at an order of at least 12.
+    /// `InvalidRequest` for 0 pages, for more than 2^51, and for an order above 63.
+    ///
+    /// ```
+    /// let mut memory = cinghjalofa::MemoryAllocator::new();
+    /// memory.free_pages(0x10000, 16).unwrap();
+    /// assert_eq!(memory.allocate_pages(1, 0), Ok(0x10000));
+    /// assert_eq!(memory.allocate_pages(2, 14), Ok(0x14000));
+    /// ```
+    pub fn allocate_pages(&mut self, count: usize, align_order: usize) -> Result<usize, MemoryError> {
+        self.call(ALLOCATE_PAGES, count, align_order, 0)
+    }
+
+    /// Gives `count` pages to the allocator, no byte of which may be free already. `InvalidRequest` for an address that is
+    /// no multiple of [`PAGE_BYTES`](crate::PAGE_BYTES), for 0 pages, and for more than 2^51.
+    pub fn free_pages(&mut self, address: usize, count: usize) -> Result<(), MemoryError> {
+        self.call(FREE_PAGES, address, count, 0).map(|_| ())
+    }
+
+    /// Serves a list of calls in order, and writes the answer of each to its place: the state is checked once.
+    /// The answers, and the state, are those of the calls made singly, wherever the list is cut.
+    /// `InvalidRequest`, and nothing changed, where there are fewer places than calls; places past the list stay as they are.
+    ///
+    /// ```
+    /// use cinghjalofa::{Call, CallAnswer, MemoryAllocator, MemoryError};
+    ///
+    /// let mut memory = MemoryAllocator::new();
+    /// let calls = [Call::free(0x10000, 0x10000), Call::allocate(0x1000, 0), Call::free(0x10000, 0)];
+    /// let mut answers = [CallAnswer::default(); 3];
+    /// memory.serve(&calls, &mut answers)?;
+    /// assert_eq!(answers[1].result(), Ok(0x10000));
+    /// assert_eq!(answers[2].result(), Err(MemoryError::InvalidRequest));
+    /// # Ok::<(), MemoryError>(())
+    /// ```
+    pub fn serve(&mut self, list: &[Call], answers: &mut [CallAnswer]) -> Result<(), MemoryError> {
+        list::serve(list, answers, |words, places| self.own.batch(words, places))
+    }
+
+    /// The number of free bytes.
+    pub fn total(&self) -> usize {
+        self.own.total() as usize
+    }
+
+    /// The free ranges by address.
+    ///
+    /// ```
+    /// use cinghjalofa::{FreeRange, MemoryAllocator};
+    ///
+    /// let mut memory = MemoryAllocator::new();
+    /// memory.free(0x8000, 0x1000).unwrap();
+    /// memory.free(0x2000, 0x1000).unwrap();
+    /// let ranges = [FreeRange { start: 0x2000, last: 0x2fff }, FreeRange { start: 0x8000, last: 0x8fff }];
+    /// assert!(memory.ranges().eq(ranges));
+    /// ```
+    pub fn ranges(&self) -> FreeRanges<'_> {
+        FreeRanges::of_own(&self.own)
+    }
+
+    /// Writes first and last bytes of the free ranges, by address, to two slices and returns their number.
+    /// `InvalidRequest`, and nothing written, where a slice is too short; 64 places are always enough.
+    ///
+    /// ```
+    /// let mut memory = cinghjalofa::MemoryAllocator::new();
+    /// memory.free(0x8000, 0x1000).unwrap();
+    /// let (mut starts, mut lasts) = ([0; 64], [0; 64]);
+    /// assert_eq!(memory.listing(&mut starts, &mut lasts), Ok(1));
+    /// assert_eq!((starts[0], lasts[0]), (0x8000, 0x8fff));
+    /// ```
+    pub fn listing(&self, starts: &mut [usize], lasts: &mut [usize]) -> Result<usize, MemoryError> {
+        image::listing(self.ranges(), starts, lasts)
+    }
+
+    /// The proved check, run again: false only where something wrote over the allocator's memory.
+    pub fn is_sound(&self) -> bool {
+        self.own.is_sound()
+    }
+
+    fn call(&mut self, kind: u64, x: usize, y: usize, z: usize) -> Result<usize, MemoryError> {
+        result_of(self.own.call(kind, x as u64, y as u64, z as u64))
+    }
+}
+
+impl UncheckedAllocator {
+    /// See [`MemoryAllocator::new`].
+    pub const fn new() -> Self {
+        Self { own: Own::new() }
+    }
+
+    /// See [`MemoryAllocator::from_image`]: the bytes are checked.
+    pub fn from_image(image: &[u8]) -> Result<Self, MemoryError> {
+        let mut own = Own::new();
+        result_of(own.import(image))?;
+        Ok(Self { own })
+    }
+
+    /// See [`MemoryAllocator::image`].
+    pub fn image(&self) -> [u8; IMAGE_BYTES] {
+        let mut image = [0; IMAGE_BYTES];
+        self.own.export(&mut image);
+        image
+    }
+
+    /// See [`MemoryAllocator::allocate`].
+    pub fn allocate(&mut self, size: usize, align_order: usize) -> Result<usize, MemoryError> {
+        self.call(ALLOCATE, size, align_order, 0)
+    }
+
+    /// See [`MemoryAllocator::reserve_memory`].
+    pub fn reserve_memory(&mut self, start_address: usize, size: usize, align_order: usize) -> Result<(), MemoryError> {
+        self.call(RESERVE, start_address, size, align_order).map(|_| ())
+    }
+
+    /// See [`MemoryAllocator::free`].
+    pub fn free(&mut self, start: usize, size: usize) -> Result<(), MemoryError> {
+        self.call(FREE, start, size, 0).map(|_| ())
+    }
+
+    /// See [`MemoryAllocator::allocate_pages`].
+    pub fn allocate_pages(&mut self, count: usize, align_order: usize) -> Result<usize, MemoryError> {
+        self.call(ALLOCATE_PAGES, count, align_order, 0)
+    }
+
+    /// See [`MemoryAllocator::free_pages`].
+    pub fn free_pages(&mut self, address: usize, count: usize) -> Result<(), MemoryError> {
+        self.call(FREE_PAGES, address, count, 0).map(|_| ())
+    }
+
+    /// See [`MemoryAllocator::serve`].
+    pub fn serve(&mut self, list: &[Call], answers: &mut [CallAnswer]) -> Result<(), MemoryError> {
+        list::serve(list, answers, |words, places| self.own.batch(words, places))
+    }
+
+    /// See [`MemoryAllocator::total`].
+    pub fn total(&self) -> usize {
+        self.own.total() as usize
+    }
+
+    /// See [`MemoryAllocator::ranges`].
+    pub fn ranges(&self) -> FreeRanges<'_> {
+        FreeRanges::of_own(&self.own)
+    }
+
+    /// See [`MemoryAllocator::listing`].
+    pub fn listing(&self, starts: &mut [usize], lasts: &mut [usize]) -> Result<usize, MemoryError> {
+        image::listing(self.ranges(), starts, lasts)
+    }
+
+    /// See [`MemoryAllocator::is_sound`].
+    pub fn is_sound(&self) -> bool {
+        self.own.is_sound()
+    }
+
+    fn call(&mut self, kind: u64, x: usize, y: usize, z: usize) -> Result<usize, MemoryError> {
+        result_of(self.own.call_unchecked(kind, x as u64, y as u64, z as u64))
+    }
+}
+
+impl Default for MemoryAllocator {
+    fn default() -> Self {
+        Self::new()
+    }
+}
+
+impl Default for UncheckedAllocator {
+    fn default() -> Self {
+        Self::new()
+    }
+}
