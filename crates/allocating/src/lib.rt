@@ -22,7 +22,7 @@ const NO_ENTRY: u64 = 1;
 const NO_MEMORY: u64 = 3;
 
 // `size` bytes are taken from the first range of the shelf that can be served, if there is one, where `spare` is whether a record is
-// unused. If it is not so, NoEntry.
+// taken to be unused; NoEntry where that is wrong and one is wanted.
 fn allocate_first(
     total: &mut u64,
     first: &mut u16,
