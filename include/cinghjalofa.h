@@ -68,11 +68,12 @@ int64_t cinghjalofa_new(uint8_t *image, size_t len);
 
 /*
  * Takes `size` free bytes and answers the address of the first, a multiple of 2^order. They come from the first free
- * range that fits once its start is rounded up; smaller ranges are tried first, and the newest first among equals.
+ * range that fits once its start is rounded up; smaller ranges are tried first, and the newest first among equals. A range
+ * that would fall into two pieces is passed over where all records are used.
  *   -2  len is not CINGHJALOFA_IMAGE_BYTES, or the image is not sound
  *   -4  size is 0, or order is above 63
  *   -3  size is above the total, or no range fits
- *   -1  the chosen range would fall into two pieces and all records are used; no further range is tried
+ *   -1  all records are used, and each range that fits would fall into two pieces
  */
 int64_t cinghjalofa_allocate(uint8_t *image, size_t len, uint64_t size, uint64_t order);
 

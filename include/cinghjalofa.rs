@@ -180,11 +180,12 @@ pub fn new(image: &mut [u8]) -> i64 {
 }
 
 /// Takes `size` free bytes and answers the address of the first, a multiple of 2^order. They come from the first free
-/// range that fits once its start is rounded up; smaller ranges are tried first, and the newest first among equals.
+/// range that fits once its start is rounded up; smaller ranges are tried first, and the newest first among equals. A range
+/// that would fall into two pieces is passed over where all records are used.
 /// - -2: the slice is not `IMAGE_BYTES` long, or the image is not sound
 /// - -4: `size` is 0, or `order` is above 63
 /// - -3: `size` is above the total, or no range fits
-/// - -1: the chosen range would fall into two pieces and all records are used; no further range is tried
+/// - -1: all records are used, and each range that fits would fall into two pieces
 pub fn allocate(image: &mut [u8], size: u64, order: u64) -> i64 {
     unsafe { cinghjalofa_allocate(image.as_mut_ptr(), image.len(), size, order) }
 }

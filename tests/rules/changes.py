@@ -25,6 +25,7 @@ SAME = {
     ("lower a b = find (λ r. eqb (suc (r .last)) a) (b .chain)", "lower a b = find (λ r. eqb (suc (r .last)) a) (b .shelf)"),
     ("upper t b = find (λ r. eqb (r .start) t) (b .chain)", "upper t b = find (λ r. eqb (r .start) t) (b .shelf)"),
     ("refuse (eqb z 0) 4 b", "refuse (leb z 0) 4 b"),
+    ("(refuse (not (any (λ r. fits (fit z o r)) (b .shelf))) 3 b", "(refuse (not (any (λ r. fits (fit z o r)) (b .chain))) 3 b"),
     (
         "(reserveFrom n (down o s) (up o (s + z)) b (find (contains (down o s) (up o (s + z))) (b .chain)))))))",
         "(reserveFrom n (down o s) (up o (s + z)) b (find (contains (down o s) (up o (s + z))) (b .shelf)))))))",

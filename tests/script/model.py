@@ -1,4 +1,4 @@
-"""Document 01's rules, with document 02's T-03, on plain lists: the chain, the shelf and the records, as the papers word them. Knows nothing of
+"""Document 01's rules, with document 02's T-03 and T-06, on plain lists: the chain, the shelf and the records, as the papers word them. Knows nothing of
 the port."""
 
 TOP = 2**63
@@ -50,12 +50,12 @@ class Book:
             return 4, 0
         if size > self.total():
             return 3, 0
-        for found in self.shelf:
+        fitting = [found for found in self.shelf if up(found[0], order) + size <= found[1] + 1]
+        for found in fitting:
             start = up(found[0], order)
-            if start + size <= found[1] + 1:
-                number = self.take(found, start, start + size)
-                return number, 0 if number else start
-        return 3, 0
+            if self.take(found, start, start + size) == 0:
+                return 0, start
+        return 1 if fitting else 3, 0
 
     def reserve(self, start, size, order):
         if size == 0 or order > 63:

@@ -1,22 +1,20 @@
 -- The rule of `allocate`, line by line. Assumes nothing.
 use Prim.Native.Nat.{ℕ, suc, _+_, _-_, _<_, _≤_}
-use mathlib.Core.Bool.{cond}
+use mathlib.Core.Bool.{Bool, cond}
 use mathlib.Core.Logic.{_≢_}
 use mathlib.Core.Path.{_≡_, sym, ap, _∙_}
 use lib.ListN.{getD}
-use lib.Dec.{leb, leb→le}
 use native.Mathlib.Omega.{arith}
 use borrow.Author.Tests.{eq-eqb, ne-eqb, lt-ltb, le-ltb}
-use Rattle.rules.specs.Rules.{top, Range, Book, accepted, refused, refuse, allocate, allocateFrom, total, taken, up, fits, find}
-use Rattle.laws.proofs.Lists.{found}
-use Rattle.laws.proofs.Outcomes.{le-up}
+use Rattle.rules.specs.Rules.{top, Range, Book, accepted, refused, refuse, allocate, total, taken, up, fit, serves, find}
+use Rattle.laws.proofs.Outcomes.{le-up, served}
 use Rattle.state.specs.State.{Holds}
 use Rattle.state.specs.declared.RecordIndex.{RecordIndex}
 use Rattle.state.specs.declared.MemoryAllocator.{MemoryAllocator}
 use Rattle.links.specs.Hits.{hitOf}
 use Rattle.links.specs.declared.Hit.the-variants.{At, Nothing}
 use Rattle.take.specs.Take.{Asks, refuses}
-use Rattle.allocating.specs.Fit.{allocateFit}
+use Rattle.allocating.specs.Fit.{allocateFit, firstFrom, allocateFirst}
 use Rattle.links.proofs.Hits.{hit-at, hit-nothing}
 use Rattle.state.proofs.States.{stands-at}
 
@@ -37,21 +35,27 @@ module _ (n z o : ℕ) (b : Book) where
   unfolding allocate refuse
   searched e h g = rw (ne-eqb z 0 e, le-ltb 63 o h, le-ltb (total b) z g)
 
-  pub none-fits : Nothing ≡ hitOf (find (fits z o) (b .shelf)) → allocateFit n z o b ≡ refused 3 b
-  unfolding allocateFrom
-  none-fits q = ap (allocateFrom n z o b) (hit-nothing (fits z o) (b .shelf) q)
+-- ---- one search
+
+module _ (n : ℕ) (spare : Bool) (z o : ℕ) (b : Book) where
+  abbrev serving : Range → Bool
+  serving r = serves spare (fit z o r)
+
+  pub none-serves : Nothing ≡ hitOf (find serving (b .shelf)) → allocateFirst n spare z o b ≡ refused 3 b
+  unfolding firstFrom
+  none-serves q = ap (firstFrom n z o b) (hit-nothing serving (b .shelf) q)
 
   -- the range that was found, and what the answer is
   pub record Fitted (s : MemoryAllocator) (i a : ℕ) : Type 0 where
     pub range : Range
     pub asks : Asks n b s i a (a + z) range
-    pub answer : allocateFit n z o b ≡ cond (refuses n b range a (a + z)) (refused 1 b) (accepted a (taken n range a (a + z) b))
+    pub answer : allocateFirst n spare z o b ≡ cond (refuses n b range a (a + z)) (refused 1 b) (accepted a (taken n range a (a + z) b))
 
-  pub fitted : 0 < z → (s : MemoryAllocator) (j : RecordIndex) (a : ℕ) → Holds n b s → At j ≡ hitOf (find (fits z o) (b .shelf)) → a ≡ up o (getD (s .start) (j .0) 0)
+  pub fitted : 0 < z → (s : MemoryAllocator) (j : RecordIndex) (a : ℕ) → Holds n b s → At j ≡ hitOf (find serving (b .shelf)) → a ≡ up o (getD (s .start) (j .0) 0)
       → Fitted s (j .0) a
-  unfolding allocateFrom refuse
+  unfolding firstFrom refuse
   fitted some s j a hs q f =
-      let w = hit-at (fits z o) (b .shelf) j q in
+      let w = hit-at serving (b .shelf) j q in
       let r = w .0 in
       let m = hs .shape .sound .same r .1 (w .1) in
       let ea : a ≡ up o (r .start) = f ∙ ap (up o) (stands-at n b s hs (j .0) r (w .3) m .1) in
@@ -63,18 +67,18 @@ module _ (n z o : ℕ) (b : Book) where
           number = w .3;
           from = rw ea (le-up o (r .start));
           some-byte = omega arith;
-          to = rw ea (leb→le (up o (r .start) + z) (suc (r .last)) (w .2));
+          to = rw ea (served spare z o r (w .2) .0);
         };
-        answer = ap (allocateFrom n z o b) (w .4) ∙ ap (λ (x : ℕ). cond (refuses n b r x (x + z)) (refused 1 b) (accepted x (taken n r x (x + z) b))) (sym ea);
+        answer = ap (firstFrom n z o b) (w .4) ∙ ap (λ (x : ℕ). cond (refuses n b r x (x + z)) (refused 1 b) (accepted x (taken n r x (x + z) b))) (sym ea);
       }
 
   -- the record that was found has a range below the top, and the request ends there
-  pub fit-known : (s : MemoryAllocator) (j : RecordIndex) → Holds n b s → At j ≡ hitOf (find (fits z o) (b .shelf))
+  pub fit-known : (s : MemoryAllocator) (j : RecordIndex) → Holds n b s → At j ≡ hitOf (find serving (b .shelf))
       → (j .0 < n) × (getD (s .start) (j .0) 0 < top) × (up o (getD (s .start) (j .0) 0) + z ≤ top)
   fit-known s j hs q =
-      let w = hit-at (fits z o) (b .shelf) j q in
+      let w = hit-at serving (b .shelf) j q in
       let m = hs .shape .sound .same (w .0) .1 (w .1) in
       let k = stands-at n b s hs (j .0) (w .0) (w .3) m in
       let g = hs .shape .sound .good (w .0) m in
       let u : up o (getD (s .start) (j .0) 0) ≡ up o (w .0 .start) = ap (up o) (k .1) in
-      (k .0, (let e = k .1 in omega (arith, g .proper, g .below)), omega (arith, leb→le (up o (w .0 .start) + z) (suc (w .0 .last)) (w .2), g .below))
+      (k .0, (let e = k .1 in omega (arith, g .proper, g .below)), omega (arith, served spare z o (w .0) (w .2) .0, g .below))

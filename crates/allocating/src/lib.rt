@@ -1,6 +1,7 @@
 // `allocate`, in place.
 use align::align_up;
 use calls::Answer;
+use calls::number_of;
 use entries::Moving;
 use links::Hit;
 use shelf::find_fit;
@@ -14,10 +15,15 @@ ghost use Rattle.rules.specs.Rules.{allocate};
 ghost use Rattle.state.specs.Shown.{pool};
 ghost use Rattle.state.specs.Lent.{HoldsSome};
 ghost use Rattle.calls.specs.Answers.{Follows};
-ghost use Rattle.allocating.specs.Fit.{allocateFit};
+ghost use Rattle.allocating.specs.Fit.{allocateFirst, allocateFit};
 
-// `size` bytes are taken from the first range of the shelf that fits, if there is one.
-fn allocate_fit(
+const NO_ENTRY: u64 = 1;
+
+const NO_MEMORY: u64 = 3;
+
+// `size` bytes are taken from the first range of the shelf that can be served, if there is one, where `spare` is whether a record is
+// taken to be unused; NoEntry where that is wrong and one is wanted.
+fn allocate_first(
     total: &mut u64,
     first: &mut u16,
     heads: &mut [u16; LISTS],
@@ -28,15 +34,16 @@ fn allocate_fit(
     next: &mut [u16; POOL],
     lprev: &mut [u16; POOL],
     lnext: &mut [u16; POOL],
+    spare: bool,
     size: u64,
     order: u64,
 ) -> Answer
     requires { ⌜ HoldsSome pool total first heads start end enabled previous next lprev lnext ⌝ }
     requires { ⌜ (0 < size) × (order ≤ 63) ⌝ }
-    ensures { λ k. ⌜ Follows pool (allocateFit pool size order) k total first heads start end enabled previous next lprev lnext ⌝ }
+    ensures { λ k. ⌜ Follows pool (allocateFirst pool spare size order) k total first heads start end enabled previous next lprev lnext ⌝ }
 {
-    let fit = find_fit(start, end, lnext, heads, size, order);
-    let Hit::At(i) = fit else {
+    let hit = find_fit(start, end, lnext, heads, spare, size, order);
+    let Hit::At(i) = hit else {
         return Answer::NoMemory;
     };
     let n = i.0 as usize;
@@ -60,6 +67,64 @@ fn allocate_fit(
         Moving::Done => Answer::Accepted(Address(a)),
         Moving::NoRecord => Answer::NoEntry,
     }
+}
+
+// `size` bytes are taken from the first range that fits; where that wants a record and all are used, from the first that wants none.
+fn allocate_fit(
+    total: &mut u64,
+    first: &mut u16,
+    heads: &mut [u16; LISTS],
+    start: &mut [u64; POOL],
+    end: &mut [u64; POOL],
+    enabled: &mut [bool; POOL],
+    previous: &mut [u16; POOL],
+    next: &mut [u16; POOL],
+    lprev: &mut [u16; POOL],
+    lnext: &mut [u16; POOL],
+    size: u64,
+    order: u64,
+) -> Answer
+    requires { ⌜ HoldsSome pool total first heads start end enabled previous next lprev lnext ⌝ }
+    requires { ⌜ (0 < size) × (order ≤ 63) ⌝ }
+    ensures { λ k. ⌜ Follows pool (allocateFit pool size order) k total first heads start end enabled previous next lprev lnext ⌝ }
+{
+    let any = allocate_first(
+        total,
+        first,
+        heads,
+        start,
+        end,
+        enabled,
+        previous,
+        next,
+        lprev,
+        lnext,
+        true,
+        size,
+        order,
+    );
+    if number_of(any) != NO_ENTRY {
+        return any;
+    }
+    let plain = allocate_first(
+        total,
+        first,
+        heads,
+        start,
+        end,
+        enabled,
+        previous,
+        next,
+        lprev,
+        lnext,
+        false,
+        size,
+        order,
+    );
+    if number_of(plain) == NO_MEMORY {
+        return Answer::NoEntry;
+    }
+    plain
 }
 
 // Document 01's lines for an allocation, one after the other; what passes them is served.

@@ -2,14 +2,14 @@
 -- the ends of all free ranges after it. An end is a first byte, or the byte after a last one. Assumes nothing.
 use mathlib.Core.Path.{_≡_, refl, sym, ap, _∙_, subst}
 use mathlib.Core.Logic.{_⊎_, inl, inr}
-use mathlib.Core.Bool.{Bool, true, false, cond, _&&_}
+use mathlib.Core.Bool.{Bool, true, false, not, cond, _&&_}
 use mathlib.Core.Option.{Option, none, some}
 use Prim.Native.Nat.{ℕ, zero, suc, _+_, _-_, _*_, _/_, _^_, _≤_, _<_, _∣_}
 use native.Mathlib.Omega.{arith}
 use native.Mathlib.Nat.{add-zero, add-suc, suc-mul, zero-mul, mul-zero, mul-one, mul-add, dvd-zero, dvd-add, dvd-trans, dvd-mul-left, div-mul-cancel, mul-add-div-right, div-eq-of-lt, mul-le-mul-right, lt-of-mul-lt-mul-right}
 use lib.Pow.{pow-pos}
 use lib.Dec.{T, leb, ltb, eqb, leb→le, le→leb, lt→ltb, ltb→lt, eqb→eq}
-use Rattle.rules.specs.Rules.{Range, Book, down, up, find, put, remove, freeAt, fits, putIf, taken, joined, lower, upper, given, Answer, refuse, allocateFrom, allocate, Call, Free, Allocate, Reserve, step, Voucher, voucher, from, past, covers, count}
+use Rattle.rules.specs.Rules.{Range, Book, down, up, find, put, remove, freeAt, full, fit, serves, putIf, taken, joined, lower, upper, given, Answer, refuse, allocateFrom, allocate, Call, Free, Allocate, Reserve, step, Voucher, voucher, from, past, covers, count}
 use Rattle.rules.specs.Sound.{In, Sound}
 use Rattle.laws.proofs.Lists.{if, and-l, and-r, and-i, same-test, Found, found}
 use Rattle.laws.proofs.Kept.{Takes, Gives, in-put→, in-remove→, free→, free←}
@@ -104,16 +104,17 @@ module _ (P : ℕ → Type 0) (zeroed : P 0) where
   refuse-address q k b w h = if q (λ (v : Answer). P (v .address)) (λ _. zeroed) (λ _. h)
 
   -- the address of a take: 0 where it is refused, else the start of a free range, rounded up
-  allocated-address : (n z o : ℕ) (b : Book) (m : Option Range) → Found (fits z o) (b .shelf) m → ((r : Range) → In r (b .shelf) → P (up o (r .start))) → P (allocateFrom n z o b m .address)
+  allocated-address : (n z o : ℕ) (b : Book) (m : Option Range) → Found (λ r. serves (not (full n b)) (fit z o r)) (b .shelf) m
+      → ((r : Range) → In r (b .shelf) → P (up o (r .start))) → P (allocateFrom n z o b m .address)
   unfolding allocateFrom
   allocated-address n z o b none f h = zeroed
-  allocated-address n z o b (some r) f h = refuse-address _ _ b _ (h r (f .0))
+  allocated-address n z o b (some r) f h = h r (f .0)
 
   pub allocate-address : (n z o : ℕ) (b : Book) → Sound n b → ((r : Range) → In r (b .chain) → P (up o (r .start))) → P (allocate n z o b .address)
   unfolding allocate
   allocate-address n z o b s h =
-      refuse-address _ _ b _ (refuse-address _ _ b _ (refuse-address _ _ b _
-      (allocated-address n z o b (find (fits z o) (b .shelf)) (found (fits z o) (b .shelf)) (λ r i. h r (s .same r .1 i)))))
+      refuse-address _ _ b _ (refuse-address _ _ b _ (refuse-address _ _ b _ (refuse-address _ _ b _
+      (allocated-address n z o b _ (found (λ r. serves (not (full n b)) (fit z o r)) (b .shelf)) (λ r i. h r (s .same r .1 i))))))
 
 -- the numbers of the call are multiples: of a free both, of a take the size, of a reserve the ends of the widened piece
 abbrev pub Whole : ℕ → Call → Type 0

@@ -1,13 +1,13 @@
 -- What a call comes to: a refusal, a piece taken, or a piece given. Assumes nothing.
 use mathlib.Core.Logic.{_≢_, _⊎_, inl, inr}
-use mathlib.Core.Bool.{Bool, not, _&&_}
+use mathlib.Core.Bool.{Bool, true, false, not, cond, _&&_}
 use mathlib.Core.Option.{Option, none, some}
 use Prim.Native.Nat.{ℕ, suc, _+_, _-_, _^_, _≤_, _<_}
 use native.Mathlib.Omega.{arith}
 use native.Mathlib.Nat.{div-add-mod', mod-lt, div-mul-le-self}
 use lib.Pow.{pow-pos}
 use lib.Dec.{T, leb, ltb, leb→le, nleb→lt, ltb→lt, nltb→le}
-use Rattle.rules.specs.Rules.{top, Range, Book, down, up, any, find, unused, full, meets, contains, splits, fits, taken, lower, upper, given, alone, Answer, accepted, refused, refuse, allocateFrom, allocate, reserveFrom, reserve, free, Call, Free, Allocate, Reserve, step, frees, from, past}
+use Rattle.rules.specs.Rules.{top, Range, Book, down, up, any, find, unused, full, meets, contains, splits, Short, Plain, Splits, fit, serves, taken, lower, upper, given, alone, Answer, accepted, refused, refuse, allocateFrom, allocate, reserveFrom, reserve, free, Call, Free, Allocate, Reserve, step, frees, from, past}
 use Rattle.rules.specs.Sound.{In}
 use Rattle.laws.proofs.Lists.{if, and-l, and-r, and-i, not-and, T-no, T-or-not, neq, any←, Found, found}
 use Rattle.rules.specs.Sound.{Sound}
@@ -33,16 +33,30 @@ line n b c k h q w f = if q (λ a. Outcome n b c a) (λ t. let g = ltb→lt 0 k 
 has-room : (n : ℕ) (b : Book) (q : Bool) → T (not (q && full n b)) → T q → unused n b < n
 has-room n b q t h = nleb→lt n (unused n b) (not-and q (full n b) t h)
 
-allocated : (n : ℕ) (b : Book) (z o : ℕ) → Sound n b → z ≢ 0 → (m : Option Range) → Found (fits z o) (b .shelf) m → Outcome n b (Allocate z o) (allocateFrom n z o b m)
+-- a range that can be served has the bytes, and a record is unused if they split it
+pub served : (spare : Bool) (z o : ℕ) (r : Range) → T (serves spare (fit z o r))
+    → (up o (r .start) + z ≤ suc (r .last)) × (T (splits (up o (r .start)) (up o (r .start) + z) r) → T spare)
+served spare z o r h =
+    let g = go (leb (up o (r .start) + z) (suc (r .last))) (splits (up o (r .start)) (up o (r .start) + z) r) h in (leb→le (up o (r .start) + z) (suc (r .last)) (g .0), g .1)
+  where
+    go : (q s : Bool) → T (serves spare (cond q (cond s Splits Plain) Short)) → T q × (T s → T spare)
+    go true true h = (tt, λ _. h)
+    go true false h = (tt, λ x. absurd x)
+    go false s h = absurd h
+
+allocated : (n : ℕ) (b : Book) (z o : ℕ) → Sound n b → z ≢ 0 → (m : Option Range) → Found (λ r. serves (not (full n b)) (fit z o r)) (b .shelf) m
+    → Outcome n b (Allocate z o) (allocateFrom n z o b m)
 unfolding allocateFrom
-allocated n b z o s h none f = refusal 3 (omega arith) (omega arith)
-allocated n b z o s h (some r) f = line n b (Allocate z o) 1 tt _ _ (λ t. took (up o (r .start)) r tt (record {
-  member = s .same r .1 (f .0);
-  from = le-up o (r .start);
-  some-byte = omega arith;
-  to = leb→le (up o (r .start) + z) (suc (r .last)) (f .1);
-  room = has-room n b (splits (up o (r .start)) (up o (r .start) + z) r) t;
-}))
+allocated n b z o s h none f = refusal 1 (omega arith) (omega arith)
+allocated n b z o s h (some r) f =
+    let g = served (not (full n b)) z o r (f .1) in
+    took (up o (r .start)) r tt (record {
+      member = s .same r .1 (f .0);
+      from = le-up o (r .start);
+      some-byte = omega arith;
+      to = g .0;
+      room = λ t. nleb→lt n (unused n b) (g .1 t);
+    })
 
 reserved : (n : ℕ) (b : Book) (s z o : ℕ) → Sound n b → z ≢ 0 → (m : Option Range) → Found (contains (down o s) (up o (s + z))) (b .chain) m
     → Outcome n b (Reserve s z o) (reserveFrom n (down o s) (up o (s + z)) b m)
@@ -74,7 +88,7 @@ outcome n b (Free s z) k = line n b (Free s z) 4 tt _ _ (λ h. line n b (Free s 
       clear = clear s (s + z) b j;
       room = has-room n b (alone (lower s b) (upper (s + z) b)) t;
     })))))
-outcome n b (Allocate z o) k = line n b (Allocate z o) 4 tt _ _ (λ h. line n b (Allocate z o) 4 tt _ _ (λ _. line n b (Allocate z o) 3 tt _ _ (λ _.
-    allocated n b z o k (neq z 0 h) (find (fits z o) (b .shelf)) (found (fits z o) (b .shelf)))))
+outcome n b (Allocate z o) k = line n b (Allocate z o) 4 tt _ _ (λ h. line n b (Allocate z o) 4 tt _ _ (λ _. line n b (Allocate z o) 3 tt _ _ (λ _. line n b (Allocate z o) 3 tt _ _ (λ _.
+    allocated n b z o k (neq z 0 h) _ (found (λ r. serves (not (full n b)) (fit z o r)) (b .shelf))))))
 outcome n b (Reserve s z o) k = line n b (Reserve s z o) 4 tt _ _ (λ h. line n b (Reserve s z o) 4 tt _ _ (λ _. line n b (Reserve s z o) 3 tt _ _ (λ _. line n b (Reserve s z o) 4 tt _ _ (λ _. line n b (Reserve s z o) 3 tt _ _ (λ _.
     reserved n b s z o k (neq z 0 h) (find (contains (down o s) (up o (s + z))) (b .chain)) (found (contains (down o s) (up o (s + z))) (b .chain)))))))

@@ -6,7 +6,7 @@ use Prim.Native.Nat.{ℕ, _^_}
 use lib.Dec.{leb}
 use Rattle.rules.specs.Rules.{top, records, sizeLists, Range, Book, size, listing, sum, total, before, without, put, remove, any, find, lowest, unused, least, listNumber, down, up, freeAt, taken, joined, given, refuse, allocateFrom, allocate, reserveFrom, reserve, free, Call, Free, Allocate, Reserve, step, empty, lastCovering, count, back, tally, ofList, lists}
 use Rattle.rules.specs.Ledger.{bounds, play}
-use Rattle.rules.specs.Trials.{Trial, shown, left, vouchersOf, placed, refusals, emptied, small, bytes, isFree, byBook, byVouchers, gone, returned, few, goneFree, returnedFree, sizes, listNumbers, several}
+use Rattle.rules.specs.Trials.{Trial, shown, left, vouchersOf, placed, refusals, emptied, lookedOn, small, bytes, isFree, byBook, byVouchers, gone, returned, few, goneFree, returnedFree, sizes, listNumbers, several}
 
 abbrev Prints : List Trial → Type 0
 Prints ts = map (λ (t : Trial). play (t .records) empty (t .lines)) ts ≡ map (λ (t : Trial). t .prints) ts
@@ -28,6 +28,10 @@ refusing = (refl, refl, refl)
 pub emptying : Prints emptied × Chains emptied × Shelves emptied
 unfolding emptied bounds play shown left sum before without put remove any find lowest unused down up taken joined given refuse allocateFrom allocate reserveFrom reserve free step
 emptying = (refl, refl, refl)
+
+pub looking : Prints lookedOn × Chains lookedOn × Shelves lookedOn
+unfolding lookedOn bounds play shown left sum before without put remove any find lowest unused down up taken joined given refuse allocateFrom allocate reserveFrom reserve free step
+looking = (refl, refl, refl)
 
 -- the same bytes by the book and by the vouchers; and the total counts them
 pub covering : (byBook small bytes ≡ isFree) × (byVouchers small bytes ≡ isFree) × (count 32 (freeAt (left 8 empty small)) ≡ 10) × (total (left 8 empty small) ≡ 10)

@@ -1,7 +1,7 @@
 -- The rules of document 01, to be read beside it: what each call answers, and the book that it leaves. n is the number of records.
--- Request T-03 of document 02 is in force: the last free bytes may be taken.
+-- Requests T-03 and T-06 of document 02 are in force: the last free bytes may be taken, and an allocate keeps looking where a range wants a record that is not there.
 -- (A book here is sound; the state that holds it, and the refusal of an unsound one, 2, stand in the crate `state`.) Assumes nothing.
-use mathlib.Core.Bool.{Bool, true, false, cond, _&&_, _||_}
+use mathlib.Core.Bool.{Bool, true, false, not, cond, _&&_, _||_}
 use mathlib.Core.List.{List, [], _∷_, _++_, map}
 use mathlib.Core.Option.{Option, none, some}
 use Prim.Native.Nat.{ℕ, zero, suc, _+_, _-_, _*_, _/_, _^_}
@@ -131,9 +131,23 @@ contains a t r = leb (r .start) a && leb t (suc (r .last))
 abbrev pub splits : ℕ → ℕ → Range → Bool
 splits a t r = ltb (r .start) a && leb t (r .last)
 
--- z bytes remain in r from its start rounded up
-abbrev pub fits : ℕ → ℕ → Range → Bool
-fits z o r = leb (up o (r .start) + z) (suc (r .last))
+-- the fit test of a range: too few bytes remain from its start rounded up; they fit, and to take them uses no record; they fit, and it uses one
+pub data Fit : Type 0 where
+  Short : Fit
+  Plain : Fit
+  Splits : Fit
+
+abbrev pub fit : ℕ → ℕ → Range → Fit
+fit z o r = cond (leb (up o (r .start) + z) (suc (r .last))) (cond (splits (up o (r .start)) (up o (r .start) + z) r) Splits Plain) Short
+
+-- the range can be served, where `spare` says whether a record is unused; it fits, where it could be with one
+abbrev pub serves : Bool → Fit → Bool
+serves spare Short = false
+serves spare Plain = true
+serves spare Splits = spare
+
+abbrev pub fits : Fit → Bool
+fits = serves true
 
 -- ---- taking a piece out of r, and giving one back
 
@@ -187,17 +201,16 @@ unfoldable pub refuse : Bool → ℕ → Book → Answer → Answer
 refuse c k b below = cond c (refused k b) below
 
 unfoldable pub allocateFrom : ℕ → ℕ → ℕ → Book → Option Range → Answer
-allocateFrom n z o b none = refused 3 b
-allocateFrom n z o b (some r) =
-    refuse (splits (up o (r .start)) (up o (r .start) + z) r && full n b) 1 b
-    (accepted (up o (r .start)) (taken n r (up o (r .start)) (up o (r .start) + z) b))
+allocateFrom n z o b none = refused 1 b
+allocateFrom n z o b (some r) = accepted (up o (r .start)) (taken n r (up o (r .start)) (up o (r .start) + z) b)
 
 unfoldable pub allocate : ℕ → ℕ → ℕ → Book → Answer
 allocate n z o b =
     refuse (eqb z 0) 4 b
     (refuse (ltb 63 o) 4 b
     (refuse (ltb (total b) z) 3 b
-    (allocateFrom n z o b (find (fits z o) (b .shelf)))))
+    (refuse (not (any (λ r. fits (fit z o r)) (b .shelf))) 3 b
+    (allocateFrom n z o b (find (λ r. serves (not (full n b)) (fit z o r)) (b .shelf))))))
 
 unfoldable pub reserveFrom : ℕ → ℕ → ℕ → Book → Option Range → Answer
 reserveFrom n a t b none = refused 4 b

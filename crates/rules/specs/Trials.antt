@@ -191,6 +191,35 @@ emptied =
     (at# 0 65536 69631 ∷ []) (at# 0 65536 69631 ∷ [])
     ∷ []
 
+-- ---- the search goes on where a record is wanted and all are used
+
+unfoldable pub lookedOn : List Trial
+lookedOn =
+    -- all records used: past a range that would be split, to one in a later list
+    trial 2 (f 1024 4096 ∷ f 65536 8192 ∷ a 512 12 ∷ []) (ok ∷ ok ∷ at 65536 ∷ []) (at# 0 1024 5119 ∷ at# 1 66048 73727 ∷ []) (at# 0 1024 5119 ∷ at# 1 66048 73727 ∷ [])
+    -- all records used: past a range that would be split, to an older one of its size
+    ∷ trial 2 (f 65536 4096 ∷ f 1024 4096 ∷ a 512 12 ∷ []) (ok ∷ ok ∷ at 65536 ∷ []) (at# 1 1024 5119 ∷ at# 0 66048 69631 ∷ []) (at# 0 66048 69631 ∷ at# 1 1024 5119 ∷ [])
+    -- all records used: past two that would be split
+    ∷ trial 3 (f 1024 4096 ∷ f 9216 4096 ∷ f 65536 8192 ∷ a 512 12 ∷ []) (ok ∷ ok ∷ ok ∷ at 65536 ∷ [])
+    (at# 0 1024 5119 ∷ at# 1 9216 13311 ∷ at# 2 66048 73727 ∷ []) (at# 1 9216 13311 ∷ at# 0 1024 5119 ∷ at# 2 66048 73727 ∷ [])
+    -- all records used: past a range that would be split, to a tail
+    ∷ trial 2 (f 3 4 ∷ f 17 5 ∷ a 2 2 ∷ []) (ok ∷ ok ∷ at 20 ∷ []) (at# 0 3 6 ∷ at# 1 17 19 ∷ []) (at# 1 17 19 ∷ at# 0 3 6 ∷ [])
+    -- a record is unused: the first range that fits is split, though a later one would not be
+    ∷ trial 3 (f 1024 4096 ∷ f 65536 8192 ∷ a 512 12 ∷ []) (ok ∷ ok ∷ at 4096 ∷ [])
+    (at# 0 1024 4095 ∷ at# 2 4608 5119 ∷ at# 1 65536 73727 ∷ []) (at# 2 4608 5119 ∷ at# 0 1024 4095 ∷ at# 1 65536 73727 ∷ [])
+    -- all records used: of two that would not be split the first is taken
+    ∷ trial 3 (f 1024 4096 ∷ f 65536 8192 ∷ f 131072 16384 ∷ a 512 12 ∷ []) (ok ∷ ok ∷ ok ∷ at 65536 ∷ [])
+    (at# 0 1024 5119 ∷ at# 1 66048 73727 ∷ at# 2 131072 147455 ∷ []) (at# 0 1024 5119 ∷ at# 1 66048 73727 ∷ at# 2 131072 147455 ∷ [])
+    -- all records used: two ranges fit, and both would be split
+    ∷ trial 2 (f 1024 4096 ∷ f 9216 4096 ∷ a 512 12 ∷ []) (ok ∷ ok ∷ nay 1 ∷ []) (at# 0 1024 5119 ∷ at# 1 9216 13311 ∷ []) (at# 1 9216 13311 ∷ at# 0 1024 5119 ∷ [])
+    -- all records used: it fits and would be split; it does not fit; an exact tail
+    ∷ trial 1 (f 1024 4096 ∷ a 512 12 ∷ a 1025 12 ∷ a 1024 12 ∷ []) (ok ∷ nay 1 ∷ nay 3 ∷ at 4096 ∷ []) (at# 0 1024 4095 ∷ []) (at# 0 1024 4095 ∷ [])
+    -- all records used: an order of 0 takes a front
+    ∷ trial 1 (f 1024 4096 ∷ a 512 0 ∷ []) (ok ∷ at 1024 ∷ []) (at# 0 1536 5119 ∷ []) (at# 0 1536 5119 ∷ [])
+    -- all records used: a reserve names its range, and looks no further
+    ∷ trial 2 (f 1024 4096 ∷ f 65536 8192 ∷ r 4096 512 0 ∷ []) (ok ∷ ok ∷ nay 1 ∷ []) (at# 0 1024 5119 ∷ at# 1 65536 73727 ∷ []) (at# 0 1024 5119 ∷ at# 1 65536 73727 ∷ [])
+    ∷ []
+
 -- ---- bytes and vouchers
 
 -- a history over few bytes, one call of each kind refused

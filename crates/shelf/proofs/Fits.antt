@@ -1,27 +1,39 @@
--- The first range that fits. Assumes nothing.
+-- The fit test, and the first range that can be served. Assumes nothing.
 use Prim.Native.Nat.{ℕ, zero, suc, _+_, _-_, _<_, _≤_}
 use mathlib.Core.Bool.{Bool, true, false, cond}
-use mathlib.Core.Logic.{inl, inr}
+use mathlib.Core.Logic.{_≢_, inl, inr}
 use mathlib.Core.List.{List, [], _∷_, _++_}
 use mathlib.Core.Option.{none, some}
 use mathlib.Core.Path.{_≡_, refl, ap, _∙_}
-use lib.Dec.{T, leb, leb→le, le→leb, lit≤, not-T}
+use lib.Dec.{lit≤, not-T}
+use borrow.Author.Tests.{le-leb, lt-leb, lt-ltb, le-ltb}
 use native.Mathlib.Omega.{arith}
 use native.Mathlib.Numerals.{add-one}
 use Rattle.lists.specs.Links as links
-use Rattle.rules.specs.Rules.{sizeLists, Range, size, up, fits, find, listNumber, ofList, lists}
+use Rattle.rules.specs.Rules.{sizeLists, Range, size, up, Short, Plain, Splits, fit, serves, find, listNumber, ofList, lists}
 use Rattle.rules.specs.Sound.{In}
-use Rattle.laws.proofs.Lists.{same-test, T-false}
-use Rattle.laws.proofs.Outcomes.{le-up}
+use Rattle.laws.proofs.Lists.{T-false}
+use Rattle.laws.proofs.Outcomes.{le-up, served}
 use Rattle.laws.proofs.Shelf.{ofList-in, ofList-number, list-number-mono}
 use Rattle.state.specs.Shown.{numbers, Runs, Walked}
 use Rattle.state.proofs.Walks.{in-right}
 
--- what remains from the start rounded up suffices exactly where the piece ends within the range
-pub fits-left : (z f whole s last : ℕ) → 0 < z → s ≤ last → whole ≡ suc last - s → leb z (s + whole - f) ≡ leb (f + z) (suc last)
-fits-left z f whole s last hz h e = same-test (leb z (s + whole - f)) (leb (f + z) (suc last))
-    (λ p. le→leb (f + z) (suc last) (let q = leb→le z (s + whole - f) p in omega arith))
-    (λ p. le→leb z (s + whole - f) (let q = leb→le (f + z) (suc last) p in omega arith))
+-- ---- the fit test, from what remains of the range from its start rounded up
+
+module _ (z o : ℕ) (r : Range) (left : ℕ) (some-byte : 0 < z) (proper : r .start ≤ r .last) (remains : left ≡ r .start + size r - up o (r .start)) where
+  pub too-short : left < z → fit z o r ≡ Short
+  too-short h = rw (lt-leb (up o (r .start) + z) (suc (r .last)) (omega arith))
+
+  pub whole-front : z ≤ left → up o (r .start) ≡ r .start → fit z o r ≡ Plain
+  whole-front h e = rw (le-leb (up o (r .start) + z) (suc (r .last)) (omega arith), le-ltb (r .start) (up o (r .start)) (omega arith))
+
+  pub exact-tail : up o (r .start) ≢ r .start → left ≡ z → fit z o r ≡ Plain
+  exact-tail f e =
+      rw (le-leb (up o (r .start) + z) (suc (r .last)) (omega arith), lt-ltb (r .start) (up o (r .start)) (omega (arith, le-up o (r .start))), lt-leb (up o (r .start) + z) (r .last) (omega arith))
+
+  pub both-sides : z ≤ left → up o (r .start) ≢ r .start → left ≢ z → fit z o r ≡ Splits
+  both-sides h f e =
+      rw (le-leb (up o (r .start) + z) (suc (r .last)) (omega arith), lt-ltb (r .start) (up o (r .start)) (omega (arith, le-up o (r .start))), le-leb (up o (r .start) + z) (r .last) (omega arith))
 
 -- ---- searching
 
@@ -83,21 +95,22 @@ walk-all n small key l start end next t s b a w h = go (w .rest) (w .parts) (w .
 
 -- ---- the search may start at the list of the request's size
 
--- a range that fits is no smaller than the request, so its list is not below the request's
-fits-size : (z o : ℕ) (r : Range) → r .start ≤ r .last → T (fits z o r) → z ≤ size r
-fits-size z o r h t = let q = leb→le (up o (r .start) + z) (suc (r .last)) t in omega (arith, le-up o (r .start))
+-- a range that can be served is no smaller than the request, so its list is not below the request's
+module _ (spare : Bool) (z o : ℕ) (l : List Range) (proper : (r : Range) → In r l → r .start ≤ r .last) where
+  abbrev serving : Range → Bool
+  serving r = serves spare (fit z o r)
 
-low-lists : (z o : ℕ) (l : List Range) → ((r : Range) → In r l → r .start ≤ r .last) → (k : ℕ) → k < listNumber z → (q : Range) → In q (ofList k l) → mark (fits z o) q < 1
-low-lists z o l g k h q m = mark-off (fits z o) q (T-false (fits z o q) (not-T (fits z o q) (λ t.
-    let e = ofList-number k l q m in
-    let y = list-number-mono z (size q) (fits-size z o q (g q (ofList-in k l q m)) t) in omega arith)))
+  low-lists : (k : ℕ) → k < listNumber z → (q : Range) → In q (ofList k l) → mark serving q < 1
+  low-lists k h q m = mark-off serving q (T-false (serving q) (not-T (serving q) (λ t.
+      let e = ofList-number k l q m in
+      let s : z ≤ size q = omega (arith, proper q (ofList-in k l q m), served spare z o q t .0, le-up o (q .start)) in
+      let y = list-number-mono z (size q) s in omega arith)))
 
-pub from-own : (z o : ℕ) (l : List Range) → ((r : Range) → In r l → r .start ≤ r .last) → (k : ℕ) → k ≤ listNumber z → k ≤ sizeLists
-    → find (fits z o) (lists 0 sizeLists l) ≡ find (fits z o) (lists k (sizeLists - k) l)
-from-own z o l g zero h b = refl
-from-own z o l g (suc k) h b =
-    let e : sizeLists - k - 1 ≡ sizeLists - suc k = omega arith in
-    from-own z o l g k (omega arith) (omega arith)
-    ∙ list-passed (fits z o) k (sizeLists - k) l (omega arith) (low-lists z o l g k h)
-    ∙ ap (λ (m : ℕ). find (fits z o) (lists (k + 1) m l)) e
-    ∙ ap (λ (j : ℕ). find (fits z o) (lists j (sizeLists - suc k) l)) (add-one k)
+  pub from-own : (k : ℕ) → k ≤ listNumber z → k ≤ sizeLists → find serving (lists 0 sizeLists l) ≡ find serving (lists k (sizeLists - k) l)
+  from-own zero h b = refl
+  from-own (suc k) h b =
+      let e : sizeLists - k - 1 ≡ sizeLists - suc k = omega arith in
+      from-own k (omega arith) (omega arith)
+      ∙ list-passed serving k (sizeLists - k) l (omega arith) (low-lists k h)
+      ∙ ap (λ (m : ℕ). find serving (lists (k + 1) m l)) e
+      ∙ ap (λ (j : ℕ). find serving (lists j (sizeLists - suc k) l)) (add-one k)

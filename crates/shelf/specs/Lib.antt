@@ -1,2 +1,3 @@
 -- What the contracts of the shelf cite.
+pub mod Fits
 pub mod Shelf

@@ -17,12 +17,20 @@ ghost use Prim.Native.Nat.{ℕ, _<_, _≤_};
 ghost use lib.ListN.{set};
 ghost use mathlib.Core.List.{List};
 ghost use Rattle.lists.specs.Links.{head};
-ghost use Rattle.rules.specs.Rules.{Range, find, fits, range, size};
+ghost use Rattle.rules.specs.Rules.{Range, find, fit, serves, range, size};
 ghost use Rattle.rules.specs.Sound.{Good};
 ghost use Rattle.state.specs.Shown.{pool, numbers, at, Runs, Gapped, Shelved};
 ghost use Rattle.state.specs.Lent.{was, is};
+ghost use Rattle.shelf.specs.Fits.{meant};
 ghost use Rattle.shelf.specs.Shelf.{Removes, Places, Resizes, Removed, Placed, Resized};
 ghost use Rattle.links.specs.Hits.{hitOf};
+
+// What the fit test of a range says: too few bytes remain; they fit, and to take them uses no record; they fit, and it uses one.
+pub enum Fit {
+    Short,
+    Plain,
+    Splits,
+}
 
 // The number of bytes of record i.
 // In MiniVisor: get_size.
@@ -132,36 +140,52 @@ pub fn resize(
     chain_entry_to_free_list(start, end, prev, next, heads, i);
 }
 
-// Whether `size` bytes remain in record i from its start rounded up.
-pub fn fits_at(
-    start: &[u64; POOL],
-    end: &[u64; POOL],
-    i: RecordIndex,
-    size: u64,
-    order: u64,
-) -> bool
+// The fit test of record i: `size` bytes from its start rounded up.
+pub fn fit_at(start: &[u64; POOL], end: &[u64; POOL], i: RecordIndex, size: u64, order: u64) -> Fit
     requires { ⌜ Good pool (at (now start) (now end) (i .0)) ⌝ }
     requires { ⌜ (0 < size) × (order ≤ 63) ⌝ }
-    ensures { λ k. ⌜ k ≡ fits size order (at (was start) (was end) (i .0)) ⌝ }
+    ensures { λ k. ⌜ meant k ≡ fit size order (at (was start) (was end) (i .0)) ⌝ }
 {
     let whole = get_size(start, end, i);
     let n = i.0 as usize;
-    let left = align_address_and_available_size(Address(start[n]), whole, order);
-    size <= left.size
+    let from = start[n];
+    let left = align_address_and_available_size(Address(from), whole, order);
+    if left.size < size {
+        return Fit::Short;
+    }
+    if left.start.0 == from {
+        return Fit::Plain;
+    }
+    if left.size == size {
+        return Fit::Plain;
+    }
+    Fit::Splits
 }
 
-// The first range of the shelf that fits. The lists below that of `size` hold smaller ranges only.
+// Whether a range can be served, of which the fit test says so much; `spare` is whether a record is unused.
+pub fn can_be_served(fit: Fit, spare: bool) -> bool
+    ensures { λ k. ⌜ k ≡ serves spare (meant fit) ⌝ }
+{
+    match fit {
+        Fit::Short => false,
+        Fit::Plain => true,
+        Fit::Splits => spare,
+    }
+}
+
+// The first range of the shelf that can be served. The lists below that of `size` hold smaller ranges only.
 pub fn find_fit(
     start: &[u64; POOL],
     end: &[u64; POOL],
     next: &[u16; POOL],
     heads: &[u16; LISTS],
+    spare: bool,
     size: u64,
     order: u64,
 ) -> Hit
     requires { ⌜ ((l : List Range) × (prev : List ℕ) × Shelved pool l (now start) (now end) prev (now next) (now heads)) ⌝ }
     requires { ⌜ (0 < size) × (order ≤ 63) ⌝ }
-    ensures { λ k. ⌜ ((l : List Range) (prev : List ℕ) → Shelved pool l (was start) (was end) prev (was next) (was heads) → k ≡ hitOf (find (fits size order) l)) ⌝ }
+    ensures { λ k. ⌜ ((l : List Range) (prev : List ℕ) → Shelved pool l (was start) (was end) prev (was next) (was heads) → k ≡ hitOf (find (λ r. serves spare (fit size order r)) l)) ⌝ }
 {
     let own = size_to_page_order(size);
     let mut hit = Hit::Nothing;
@@ -169,7 +193,8 @@ pub fn find_fit(
     'search: while k < LISTS {
         let mut cur = RecordIndex(heads[k]);
         while cur.0 != NONE {
-            if fits_at(start, end, cur, size, order) {
+            let fit = fit_at(start, end, cur, size, order);
+            if can_be_served(fit, spare) {
                 hit = Hit::At(cur);
                 break 'search;
             }

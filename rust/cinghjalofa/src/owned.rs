@@ -66,7 +66,8 @@ impl MemoryAllocator {
     }
 
     /// Takes `size` bytes at a multiple of 2^`align_order` (0: anywhere) from the smallest free range that fits, of equal
-    /// ones from the one that got its size last, and returns their address.
+    /// ones from the one that got its size last, and returns their address. A range that would fall into two is passed over
+    /// where all records are in use.
     pub fn allocate(&mut self, size: usize, align_order: usize) -> Result<usize, MemoryError> {
         self.call(ALLOCATE, size, align_order, 0)
     }

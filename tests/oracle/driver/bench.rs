@@ -53,9 +53,8 @@ impl Bench {
         self.rule(call, &step).map_err(|text| NoRuling::Quarrel(format!("`{call}`: {text}")))
     }
 
-    /// Whether both oracles refuse a call for the last bytes, as the Rust's habit is. Copies are asked: nothing changes.
-    pub fn keeps_the_last_bytes(&self, call: Call) -> Result<(), String> {
-        let habit = if matches!(call, Call::Allocate { .. }) { 3 } else { 1 };
+    /// Whether both oracles refuse a call that document 02 lets through, as the Rust's habit is. Copies are asked: nothing changes.
+    pub fn refuses_by_habit(&self, call: Call, habit: u8) -> Result<(), String> {
         let answer = self.counting.copy().play(call);
         if answer != Answer::Refused(habit) {
             return Err(format!("{COUNTING} says `{}`, its habit is `no {habit}`", answer.printed_for(&call)));
@@ -66,6 +65,15 @@ impl Bench {
         match self.untouched.copy().play(call) {
             Answer::Refused(_) => Ok(()),
             answer => Err(format!("{UNTOUCHED} says `{}`, its habit is to refuse", answer.printed_for(&call))),
+        }
+    }
+
+    /// What the counting copy would hold after a call that it accepts. A copy is asked: nothing changes.
+    pub fn shape_after(&self, call: Call) -> Result<Shape, String> {
+        let mut counting = self.counting.copy();
+        match counting.play(call) {
+            Answer::Accepted(_) => Ok(counting.shape()),
+            answer => Err(format!("{COUNTING} says `{}` to `{call}`", answer.printed_for(&call))),
         }
     }
 

@@ -40,7 +40,7 @@ impl Players {
             Err(NoRuling::Outside(why)) => {
                 return match self.parts(call, why) {
                     Ok(()) => Played::Outside(why),
-                    Err(text) => Played::Mismatch(format!("at `{call}` (the last bytes): {text}")),
+                    Err(text) => Played::Mismatch(format!("at `{call}` (outside the domain): {text}")),
                 };
             }
             Err(NoRuling::Quarrel(text)) => return Played::Mismatch(format!("the judges differ at {text}")),
@@ -53,14 +53,42 @@ impl Players {
         }
     }
 
-    /// Where a history leaves the domain by taking the last bytes it is known what each side does: the Rust refuses, the
-    /// port accepts, and its image is then that of the empty allocator, byte for byte. Copies are asked.
+    /// Where a history leaves the domain by a request of document 02 it is known what each side does. Copies are asked.
     fn parts(&self, call: Call, why: Outside) -> Result<(), String> {
-        let address = match why {
-            Outside::TakesTheLastBytes { address, .. } => address,
-            _ => return Ok(()),
-        };
-        self.bench.keeps_the_last_bytes(call)?;
+        match (why, call) {
+            (Outside::TakesTheLastBytes { address, .. }, Call::Allocate { .. }) => self.empties(call, 3, address),
+            (Outside::TakesTheLastBytes { address, .. }, _) => self.empties(call, 1, address),
+            (Outside::LooksOn { address, .. }, Call::Allocate { size, .. }) => self.looks_on(call, address, size),
+            _ => Ok(()),
+        }
+    }
+
+    /// The Rust refuses to give its last bytes; the port gives them, and its image is that of the empty allocator, byte for byte.
+    fn empties(&self, call: Call, habit: u8, address: u64) -> Result<(), String> {
+        self.bench.refuses_by_habit(call, habit)?;
+        if self.accepting(call, address)?.image != Port::new().image {
+            return Err("the last bytes are out, and the image of the port is not that of a new one".to_string());
+        }
+        Ok(())
+    }
+
+    /// The Rust refuses for want of a record; the port takes the bytes at `address`, and holds what the Rust would hold had they been
+    /// reserved.
+    fn looks_on(&self, call: Call, address: u64, size: u64) -> Result<(), String> {
+        self.bench.refuses_by_habit(call, 1)?;
+        let shape = self.accepting(call, address)?.shape()?;
+        let due = self.bench.shape_after(Call::Reserve { start: address, size, order: 0 })?;
+        if !shape.same_links(&due) {
+            return Err(shape.describe_difference("the port", &due, "the counting copy after a reserve"));
+        }
+        if shape.total != due.total {
+            return Err(format!("total: the port {}, the counting copy after a reserve {}", shape.total, due.total));
+        }
+        Ok(())
+    }
+
+    /// A copy of the port, after a call that it must accept with this address.
+    fn accepting(&self, call: Call, address: u64) -> Result<Port, String> {
         let mut port = self.port.clone();
         let answer = port.play(call);
         if let (Some(breakage), true) = (self.breakage, answer.is_accepted()) {
@@ -70,10 +98,7 @@ impl Players {
             let (answer, due) = (answer.printed_for(&call), Answer::Accepted(address).printed_for(&call));
             return Err(format!("answer: the port `{answer}`, due is `{due}`"));
         }
-        if port.image != Port::new().image {
-            return Err("the last bytes are out, and the image of the port is not that of a new one".to_string());
-        }
-        Ok(())
+        Ok(port)
     }
 
     fn port_follows(&mut self, call: Call, ruling: &Ruling) -> Result<(), String> {

@@ -22,6 +22,12 @@ pub fn check(table: &[Difference]) -> usize {
 fn check_domain(difference: &Difference) -> Option<String> {
     let mut model = Model::new();
     let mut left = None;
+    for &call in opening(difference) {
+        match model.step(call) {
+            Ok(step) => model.apply(call, &step),
+            Err(why) => return Some(format!("the opening leaves the domain at `{call}`: {why:?}")),
+        }
+    }
     for (at, &call) in difference.calls.iter().enumerate() {
         match model.step(call) {
             Ok(step) => model.apply(call, &step),
@@ -37,17 +43,34 @@ fn check_domain(difference: &Difference) -> Option<String> {
 
 fn check_rust(difference: &Difference) -> Option<String> {
     let mut rust = Untouched::new();
-    let answers = difference.calls.iter().map(|&call| rust.play(call)).collect();
-    compare("the untouched Rust", &difference.calls, answers, &rust.shape(), &difference.rust)
+    match answers(difference, |call| rust.play(call)) {
+        Ok(answers) => compare("the untouched Rust", &difference.calls, answers, &rust.shape(), &difference.rust),
+        Err(what) => Some(format!("the untouched Rust: {what}")),
+    }
 }
 
 fn check_port(difference: &Difference) -> Option<String> {
     let mut port = Port::new();
-    let answers = difference.calls.iter().map(|&call| port.play(call)).collect();
-    match port.shape() {
-        Ok(shape) => compare("the port", &difference.calls, answers, &shape, &difference.port),
+    let played = answers(difference, |call| port.play(call)).and_then(|answers| Ok((answers, port.shape()?)));
+    match played {
+        Ok((answers, shape)) => compare("the port", &difference.calls, answers, &shape, &difference.port),
         Err(what) => Some(format!("the port: {what}")),
     }
+}
+
+fn opening(difference: &Difference) -> &[Call] {
+    difference.opening.as_ref().map_or(&[], |opening| &opening.calls[..])
+}
+
+/// The answers to the calls, once all of the opening has been accepted.
+fn answers(difference: &Difference, mut play: impl FnMut(Call) -> Answer) -> Result<Vec<Answer>, String> {
+    for &call in opening(difference) {
+        let answer = play(call);
+        if answer != Answer::Accepted(0) {
+            return Err(format!("`{call}` of the opening is answered `{}`", answer.printed_for(&call)));
+        }
+    }
+    Ok(difference.calls.iter().map(|&call| play(call)).collect())
 }
 
 fn compare(side: &str, calls: &[Call], answers: Vec<Answer>, shape: &Shape, told: &Deeds) -> Option<String> {
@@ -68,9 +91,10 @@ pub fn print_markdown(table: &[Difference]) {
     println!("|---|---|---|---|---|");
     for difference in table {
         let calls: Vec<String> = difference.calls.iter().map(|call| format!("`{call}`")).collect();
+        let opening = difference.opening.as_ref().map_or(String::new(), |opening| format!("{}; then ", opening.text));
         let rust = print_deeds(&difference.calls, &difference.rust);
         let port = print_deeds(&difference.calls, &difference.port);
-        println!("| {} | {} | {rust} | {port} | {} |", difference.topic, calls.join(", "), difference.why);
+        println!("| {} | {opening}{} | {rust} | {port} | {} |", difference.topic, calls.join(", "), difference.why);
     }
 }
 

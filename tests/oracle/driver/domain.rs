@@ -41,6 +41,12 @@ pub enum Outside {
         kind: Kind,
         address: u64,
     },
+    /// All records are used and the first range that fits would be split. Document 02's T-06 takes the bytes from `address` on, out
+    /// of the first that would not; the Rust refuses.
+    LooksOn {
+        kind: Kind,
+        address: u64,
+    },
 }
 
 /// What a call inside the domain does.
@@ -61,6 +67,10 @@ impl FreeRange {
     fn fitting_start(&self, size: u64, order: u64) -> Option<u64> {
         let rounded = round_up(self.start, order);
         (rounded <= self.end && self.end - rounded >= size - 1).then_some(rounded)
+    }
+
+    fn is_split_by(&self, start: u64, size: u64) -> bool {
+        self.start < start && start + size - 1 < self.end
     }
 }
 
@@ -155,7 +165,7 @@ impl Model {
         let fitting = self.ranges.iter().enumerate().filter_map(|(at, range)| {
             range.fitting_start(size, order).map(|address| (range.size(), Reverse(range.placed), at, address))
         });
-        let (at, address) = match fitting.min() {
+        let (at, address) = match fitting.clone().min() {
             Some((_, _, at, address)) => (at, address),
             None => return Step::refused(Kind::AllocateWithoutFit),
         };
@@ -164,7 +174,16 @@ impl Model {
         }
         let kinds = [Kind::AllocateWhole, Kind::AllocateFront, Kind::AllocateTail, Kind::AllocateMiddle];
         let step = self.take(at, address, address + size - 1, kinds, Kind::AllocateWithoutRecord)?;
-        Ok(if step.kind.number() == 0 { Step { address, ..step } } else { step })
+        if step.kind.number() == 0 {
+            return Ok(Step { address, ..step });
+        }
+        match fitting.filter(|&(.., at, address)| !self.ranges[at].is_split_by(address, size)).min() {
+            None => Ok(step),
+            Some((.., at, address)) => {
+                self.take(at, address, address + size - 1, kinds, Kind::AllocateWithoutRecord)?;
+                Err(Outside::LooksOn { kind: Kind::AllocateFurtherOn, address })
+            }
+        }
     }
 
     fn reserve(&self, start: u64, size: u64, order: u64) -> Result<Step, Outside> {

@@ -36,7 +36,8 @@ kinds! {
     AllocateTail, "allocate", 0, "the tail of a range";
     AllocateMiddle, "allocate", 0, "the middle of a range, split";
     AllocateOfLastBytes, "allocate", 0, "the last bytes, which the Rust refuses with 3";
-    AllocateWithoutRecord, "allocate", 1, "split needed, all records used";
+    AllocateFurtherOn, "allocate", 0, "past a split without a record, which the Rust refuses with 1";
+    AllocateWithoutRecord, "allocate", 1, "split needed wherever it fits, all records used";
     AllocateOverTotal, "allocate", 3, "size above the total";
     AllocateWithoutFit, "allocate", 3, "no range fits";
     ReserveWhole, "reserve", 0, "a whole range";

@@ -9,9 +9,16 @@ pub struct Deeds {
     pub total: Option<u64>,
 }
 
+/// Frees that come before the calls, and that both sides accept.
+pub struct Opening {
+    pub text: String,
+    pub calls: Vec<Call>,
+}
+
 pub struct Difference {
     pub name: String,
     pub topic: String,
+    pub opening: Option<Opening>,
     pub calls: Vec<Call>,
     /// The number of the call, from 1, at which the history leaves the domain.
     pub leaves_domain_at: Option<usize>,
@@ -37,6 +44,7 @@ fn parse_block(block: &[&str]) -> Result<Difference, String> {
     Ok(Difference {
         name: needed("case")?,
         topic: needed("topic")?,
+        opening: field("opening").map(parse_opening).transpose()?,
         calls: parse_history(&needed("calls")?)?,
         leaves_domain_at: match needed("domain")?.as_str() {
             "inside" => None,
@@ -46,6 +54,19 @@ fn parse_block(block: &[&str]) -> Result<Difference, String> {
         port: deeds("port")?,
         why: needed("why")?,
     })
+}
+
+/// `COUNT times f START SIZE, each STEP further`
+fn parse_opening(text: String) -> Result<Opening, String> {
+    let words: Vec<&str> = text.split(&[' ', ','][..]).filter(|word| !word.is_empty()).collect();
+    let calls = match words[..] {
+        [count, "times", "f", start, size, "each", step, "further"] => {
+            let (start, size, step) = (number(start)?, number(size)?, number(step)?);
+            (0..number(count)?).map(|k| Call::Free { start: start + step * k, size }).collect()
+        }
+        _ => return Err(format!("`{text}` is not `COUNT times f START SIZE, each STEP further`")),
+    };
+    Ok(Opening { text, calls })
 }
 
 fn parse_deeds(answers: &str, list: Option<String>, total: Option<String>) -> Result<Deeds, String> {

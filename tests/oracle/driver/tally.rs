@@ -36,9 +36,9 @@ impl Tally {
         }
     }
 
-    /// Of the calls that leave the domain those for the last bytes are compared too: there it is known what each side does.
+    /// Of the calls that leave the domain those that document 02 lets through are compared too: there it is known what each side does.
     pub fn count_outside(&mut self, call: Call, why: Outside) {
-        if let Outside::TakesTheLastBytes { kind, .. } = why {
+        if let Outside::TakesTheLastBytes { kind, .. } | Outside::LooksOn { kind, .. } = why {
             self.count(call, kind, false);
         }
     }

@@ -1,117 +1,74 @@
-use mathlib.Core.Path.{refl, sym, _∙_}
-use native.Mathlib.Omega.{arith}
+use mathlib.Core.Bool.{true}
+use mathlib.Core.Path.{_≡_, refl, sym, _∙_}
 use borrow.Author.Needs.{needs}
+use Rattle.rules.specs.Rules.{Book}
+use Rattle.state.specs.State.{arrays, Holds}
 use Rattle.state.specs.Shown.{pool}
-use Rattle.calls.specs.declared.Answer.the-variants.{NoMemory}
-use Rattle.calls.proofs.Endings.{refusal}
-use Rattle.entries.proofs.Endings.{moved, unmoved}
-use Rattle.allocating.proofs.Allocate.{none-fits, fitted, fit-known}
+use Rattle.calls.specs.declared.Answer.the-variants.{NoEntry}
+use Rattle.calls.proofs.Endings.{refusal, same-answer}
+use Rattle.allocating.specs.Fit.{allocateFirst}
+use Rattle.allocating.proofs.Looking.{held, once, wanted, none-plain, plain}
 use Rattle.allocating.proofs.allocate_fit.Statement.{statement}
 use Rattle.allocating.proofs.allocate_fit.Tie as tie
 
--- back over the ten lent fields; from the rounding to the record that was found; and from there to the start
-abbrev rounded : tie.After-define-used-memory-arg10 → tie.After-align-up
-rounded c = let m = c .before .before .before .before .before in m .before .before .before .before .before
+-- back over the ten lent fields: to the start, and from the second search to the answer of the first
+abbrev at-start : tie.After-allocate-first → tie.Start
+at-start c = let m = c .before .before .before .before .before .before in m .before .before .before .before .before
 
-abbrev at-fit : tie.After-align-up → tie.After-fit
-at-fit c = c .before .before .before .before
+abbrev wants : tie.After-allocate-first-arg20 → tie.Else1
+wants c = let m = c .before .before .before .before .before in m .before .before .before .before .before
 
-abbrev at-start : tie.After-fit → tie.Start
-at-start c = c .before .before .before .before .before .before .before
+-- the first search has answered 1
+one : (c : tie.Else1) (b : Book) → let f = c .before .before in let x = at-start f .args in
+    Holds pool b (arrays (x .total .now) (x .first .now) (x .heads .now) (x .start .now) (x .end .now) (x .enabled .now) (x .previous .now) (x .next .now) (x .lprev .now) (x .lnext .now))
+    → allocateFirst pool true (x .size) (x .order) b .number ≡ 1
+one c b h = sym (c .before .before .allocate-first .ensures b h .number) ∙ sym (c .before .number-of .ensures) ∙ c .if1 .left
 
-find-fit-requires : tie.Need-find-fit-requires
-find-fit-requires c κs =
-    let u = c .before .before .before .before .pre in
-    ((u .0 .0 .shelf, _, u .0 .1 .shape .shelved), u .1)
+allocate-first-requires : tie.Need-allocate-first-requires
+allocate-first-requires c κs = search needs
 
-enum-known-fit : tie.Need-enum-known-fit
-enum-known-fit c = search needs
-
-enum-told : tie.Need-enum-told
-enum-told c = search needs
+number-of-requires : tie.Need-number-of-requires
+number-of-requires c κs = search needs
 
 returns : tie.Need-returns
 returns c b h =
-    refusal pool 3 b _ NoMemory _
-    (none-fits pool _ _ b (sym (c .enum-told .given .1) ∙ c .before .before .find-fit .ensures (b .shelf) _ (h .shape .shelved)))
-    refl refl h
+    let e = c .before .before .allocate-first .ensures b h in
+    same-answer pool _ _ _ _ (once pool _ _ b (λ q. c .if1 .taken (c .before .number-of .ensures ∙ e .number ∙ q))) e
 
-cast-n : tie.Need-cast-n
-cast-n c = search needs
+allocate-first-requires-2 : tie.Need-allocate-first-requires-2
+allocate-first-requires-2 c κs =
+    let f = wants c .before .before in
+    let u = at-start f .pre in
+    ((_, f .allocate-first .ensures (u .0 .0) (u .0 .1) .book), u .1)
 
-mul-align-up : tie.Need-mul-align-up
-mul-align-up c = search needs
-
-element-copy-out-align-up : tie.Need-element-copy-out-align-up
-element-copy-out-align-up c =
-    let f = c .before .before in
-    let u = at-start f .pre .0 in
-    fit-known pool _ _ (u .0) _ _ (u .1) (sym (f .fit .given .1) ∙ f .before .before .find-fit .ensures (u .0 .shelf) _ (u .1 .shape .shelved)) .0
-
-align-up-requires : tie.Need-align-up-requires
-align-up-requires c κs =
-    let f = c .before .before .before in
-    let u = at-start f .pre .0 in
-    let k = fit-known pool _ _ (u .0) _ _ (u .1) (sym (f .fit .given .1) ∙ f .before .before .find-fit .ensures (u .0 .shelf) _ (u .1 .shape .shelved)) in
-    (omega (arith, k .1), at-start f .pre .1 .1)
-
-add-t25 : tie.Need-add-t25
-add-t25 c =
-    let a = rounded c in
-    let f = at-fit a in
-    let u = at-start f .pre .0 in
-    let k = fit-known pool _ _ (u .0) _ _ (u .1) (sym (f .fit .given .1) ∙ f .before .before .find-fit .ensures (u .0 .shelf) _ (u .1 .shape .shelved)) in
-    omega (arith, k .2, a .align-up .ensures)
-
-define-used-memory-requires : tie.Need-define-used-memory-requires
-define-used-memory-requires c κs =
-    let a = rounded c in
-    let f = at-fit a in
-    let s = at-start f .pre in
-    let u = s .0 in
-    let q = sym (f .fit .given .1) ∙ f .before .before .find-fit .ensures (u .0 .shelf) _ (u .1 .shape .shelved) in
-    let g = fitted pool _ _ (u .0) (s .1 .0) _ _ _ (u .1) q (a .align-up .ensures) in
-    (u .0, g .range, g .asks)
-
-enum-told-2 : tie.Need-enum-told-2
-enum-told-2 c = search needs
+number-of-requires-2 : tie.Need-number-of-requires-2
+number-of-requires-2 c κs = search needs
 
 returns-2 : tie.Need-returns-2
 returns-2 c b h =
     let d = c .before .before in
-    let a = rounded (d .before) in
-    let f = at-fit a in
-    let q = sym (f .fit .given .1) ∙ f .before .before .find-fit .ensures (b .shelf) _ (h .shape .shelved) in
-    let g = fitted pool _ _ b (at-start f .pre .1 .0) _ _ _ h q (a .align-up .ensures) in
-    moved pool _ b _ _ _ (g .answer) _ _ (d .define-used-memory .ensures b (g .range) (g .asks)) (c .enum-told2 .given .1)
-
-enum-told-3 : tie.Need-enum-told-3
-enum-told-3 c = search needs
+    let o = wants (d .before) in
+    let i = one o b h in
+    let g = d .allocate-first2 .ensures b (held pool 1 b _ _ _ (wanted pool _ _ b i .0) (o .before .before .allocate-first .ensures b h)) in
+    let w = none-plain pool _ _ b i (sym (g .number) ∙ sym (c .before .number-of2 .ensures) ∙ c .if2 .taken) in
+    refusal pool 1 b _ NoEntry _ (w .1) refl refl (held pool 3 b _ _ _ (w .0) g)
 
 returns-3 : tie.Need-returns-3
 returns-3 c b h =
     let d = c .before .before in
-    let a = rounded (d .before) in
-    let f = at-fit a in
-    let q = sym (f .fit .given .1) ∙ f .before .before .find-fit .ensures (b .shelf) _ (h .shape .shelved) in
-    let g = fitted pool _ _ b (at-start f .pre .1 .0) _ _ _ h q (a .align-up .ensures) in
-    unmoved pool _ b _ _ _ (g .answer) _ _ (d .define-used-memory .ensures b (g .range) (g .asks)) (c .enum-told3 .given .1)
+    let o = wants (d .before) in
+    let i = one o b h in
+    let g = d .allocate-first2 .ensures b (held pool 1 b _ _ _ (wanted pool _ _ b i .0) (o .before .before .allocate-first .ensures b h)) in
+    same-answer pool _ _ _ _ (plain pool _ _ b i (λ q. c .if2 .left (c .before .number-of2 .ensures ∙ g .number ∙ q))) g
 
 pub allocate-fit-spec : {M : Type 1} → statement M
 allocate-fit-spec =
     tie.close
     (tie.spec
-    find-fit-requires
-    enum-known-fit
-    enum-told
+    allocate-first-requires
+    number-of-requires
     returns
-    cast-n
-    mul-align-up
-    element-copy-out-align-up
-    align-up-requires
-    add-t25
-    define-used-memory-requires
-    enum-told-2
-    enum-told-3
+    allocate-first-requires-2
+    number-of-requires-2
     returns-2
     returns-3)

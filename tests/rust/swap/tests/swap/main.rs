@@ -1,7 +1,7 @@
 //! The crate in the place of the module: calling_code.rs over the module and over the crate's two allocators, the one that
 //! checks its state at each call and the one that does not, on the same random histories inside document 01's domain.
-//! Acceptances and addresses must be equal, but for a take of the last bytes, which the module refuses and the crate
-//! accepts: there a history leaves the domain and ends. Refusal numbers follow the Rust's drifted `free_size` and are
+//! Acceptances and addresses must be equal, but for a take of the last bytes and one that looks on where all records are
+//! used, which the module refuses and the crate accepts: there a history leaves the domain and ends. Refusal numbers follow the Rust's drifted `free_size` and are
 //! compared in tests/oracle, by a copy that counts rightly; here the crate's are held to the oracle's model.
 
 #![allow(dead_code)] // of the oracle's files a part is used
@@ -83,7 +83,7 @@ fn play_history(number: u64, seen: &mut Vec<Kind>) {
         let call = generator.propose(&model);
         let step = match model.step(call) {
             Ok(step) => step,
-            Err(Outside::TakesTheLastBytes { kind, address }) => {
+            Err(Outside::TakesTheLastBytes { kind, address } | Outside::LooksOn { kind, address }) => {
                 history.push(call);
                 part(&history, call, Answer::Accepted(address));
                 note(kind, seen);
@@ -137,10 +137,10 @@ fn compare(history: &[Call], call: Call, foreseen: Answer) {
 fn part(history: &[Call], call: Call, foreseen: Answer) {
     let (module, ours) = (the_module::play(call), the_crate::play(call));
     let module_refuses = matches!(module, Answer::Refused(_));
-    assert!(module_refuses, "the module answers {module:?} to the last bytes:\n{}", lines(history));
-    assert_eq!(ours, foreseen, "the crate's answer, and the model's, to the last bytes:\n{}", lines(history));
+    assert!(module_refuses, "the module answers {module:?} to the last of\n{}", lines(history));
+    assert_eq!(ours, foreseen, "the crate's answer, and the model's, to the last of\n{}", lines(history));
     let unchecked = the_unchecked_one::play(call);
-    assert_eq!(unchecked, foreseen, "the unchecked answer, and the model's, to the last bytes:\n{}", lines(history));
+    assert_eq!(unchecked, foreseen, "the unchecked answer, and the model's, to the last of\n{}", lines(history));
 }
 
 fn lines(history: &[Call]) -> String {
