@@ -5,9 +5,9 @@ use lib.ListN.{length}
 use Rattle.image_parts.specs.Layout.{current}
 use Rattle.image_parts.specs.Read.{linksIn}
 use Rattle.image_parts.proofs.Loops.{Filling, fill-start, fill-next, fill-end}
-use Rattle.image_reading.specs.Records.{linkIn}
-use Rattle.image_reading.proofs.numbers.read_links.Statement.{statement}
-use Rattle.image_reading.proofs.numbers.read_links.Tie as tie
+use Rattle.image_records.specs.Records.{linkIn}
+use Rattle.image_records.proofs.numbers.read_links.Statement.{statement}
+use Rattle.image_records.proofs.numbers.read_links.Tie as tie
 
 abbrev Inv-loop : tie.InvT-loop
 Inv-loop image at links₀ k₀ k-end links k = (k-end ≡ length links₀) × Filling (linkIn current image at) (length links₀) k links

@@ -3,8 +3,8 @@ use native.Mathlib.Omega.{arith}
 use Rattle.image_parts.specs.Layout.{current}
 use Rattle.image_parts.proofs.Loops.{part-length, part-read}
 use borrow.Author.Needs.{needs}
-use Rattle.image_reading.proofs.numbers.link_number_in.Statement.{statement}
-use Rattle.image_reading.proofs.numbers.link_number_in.Tie as tie
+use Rattle.image_records.proofs.numbers.link_number_in.Statement.{statement}
+use Rattle.image_records.proofs.numbers.link_number_in.Tie as tie
 
 mul-from : tie.Need-mul-from
 mul-from c = omega arith

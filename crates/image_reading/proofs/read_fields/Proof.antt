@@ -9,8 +9,8 @@ use Rattle.image_parts.specs.Read.{linksIn}
 use Rattle.image_parts.proofs.Lawful.{lawful-current}
 use Rattle.image_reading.proofs.Whole.{emptied, headed-sized, not-headed, not-plain, check-decides, state-read}
 use borrow.Author.Needs.{needs}
-use Rattle.image_reading.proofs.fields.read_fields.Statement.{statement}
-use Rattle.image_reading.proofs.fields.read_fields.Tie as tie
+use Rattle.image_reading.proofs.read_fields.Statement.{statement}
+use Rattle.image_reading.proofs.read_fields.Tie as tie
 
 is-headed-requires : tie.Need-is-headed-requires
 is-headed-requires c κs = search needs

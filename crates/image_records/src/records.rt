@@ -18,7 +18,7 @@ ghost use lib.ListN.{length};
 ghost use Rattle.image_parts.specs.Layout.{current, imageSize, recordSize};
 ghost use Rattle.state.specs.Lent.{was};
 ghost use Rattle.state.specs.Shown.{pool};
-ghost use Rattle.image_reading.specs.Records.{entryIn, unlinkedAt, freshAt, FreshRecords, ReadsRecords};
+ghost use Rattle.image_records.specs.Records.{entryIn, unlinkedAt, freshAt, FreshRecords, ReadsRecords};
 
 // No number of a link is above that of none, so four add up to so much only where each is none.
 fn is_unlinked(image: &[u8], at: usize) -> bool

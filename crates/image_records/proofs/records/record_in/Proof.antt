@@ -1,7 +1,7 @@
 use mathlib.Core.Bool.{true}
 use native.Mathlib.Omega.{arith}
-use Rattle.image_reading.proofs.records.record_in.Statement.{statement}
-use Rattle.image_reading.proofs.records.record_in.Tie as tie
+use Rattle.image_records.proofs.records.record_in.Statement.{statement}
+use Rattle.image_records.proofs.records.record_in.Tie as tie
 
 word-in-requires : tie.Need-word-in-requires
 word-in-requires c κs = omega arith

@@ -5,10 +5,10 @@ use native.Mathlib.Omega.{arith}
 use Rattle.lists.proofs.Laws.{true≢false}
 use Rattle.state.specs.Shown.{pool}
 use Rattle.image_parts.specs.Layout.{current, recordAt}
-use Rattle.image_reading.specs.Records.{plain}
-use Rattle.image_reading.proofs.Decoding.{Decoding, decode-start, decode-end, decode-put, decode-pass, plain-unused, plain-used, plain-neither, plain-next, plain-stop, plain-end}
-use Rattle.image_reading.proofs.records.read_records.Statement.{statement}
-use Rattle.image_reading.proofs.records.read_records.Tie as tie
+use Rattle.image_records.specs.Records.{plain}
+use Rattle.image_records.proofs.Decoding.{Decoding, decode-start, decode-end, decode-put, decode-pass, plain-unused, plain-used, plain-neither, plain-next, plain-stop, plain-end}
+use Rattle.image_records.proofs.records.read_records.Statement.{statement}
+use Rattle.image_records.proofs.records.read_records.Tie as tie
 
 abbrev Inv-loop : tie.InvT-loop
 Inv-loop image start₀ end₀ enabled₀ previous₀ next₀ lprev₀ lnext₀ i₀ start end enabled previous next lprev lnext i =

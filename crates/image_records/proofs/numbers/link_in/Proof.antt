@@ -2,8 +2,8 @@ use mathlib.Core.Path.{ap, _∙_}
 use Rattle.image_parts.specs.Layout.{current}
 use Rattle.image_parts.specs.Read.{linkOf}
 use borrow.Author.Needs.{needs}
-use Rattle.image_reading.proofs.numbers.link_in.Statement.{statement}
-use Rattle.image_reading.proofs.numbers.link_in.Tie as tie
+use Rattle.image_records.proofs.numbers.link_in.Statement.{statement}
+use Rattle.image_records.proofs.numbers.link_in.Tie as tie
 
 link-number-in-requires : tie.Need-link-number-in-requires
 link-number-in-requires c κs = search needs

@@ -1,8 +1,8 @@
 use native.Mathlib.Omega.{arith}
 use Rattle.image_parts.specs.Layout.{current}
-use Rattle.image_reading.proofs.Tests.{fresh-start, fresh-end, fresh-links}
-use Rattle.image_reading.proofs.records.is_fresh.Statement.{statement}
-use Rattle.image_reading.proofs.records.is_fresh.Tie as tie
+use Rattle.image_records.proofs.Tests.{fresh-start, fresh-end, fresh-links}
+use Rattle.image_records.proofs.records.is_fresh.Statement.{statement}
+use Rattle.image_records.proofs.records.is_fresh.Tie as tie
 
 word-in-requires : tie.Need-word-in-requires
 word-in-requires c κs = omega arith

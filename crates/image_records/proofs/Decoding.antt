@@ -17,7 +17,7 @@ use Rattle.image_parts.specs.Layout.{Layout, word, noLink, recordsAt, endAt, en
 use Rattle.image_parts.specs.Read.{numberIn, linkOf, numbersIn, linksIn, flagsIn}
 use Rattle.image_parts.proofs.Loops.{both}
 use Rattle.image_parts.specs.declared.records.MemoryEntry.{MemoryEntry}
-use Rattle.image_reading.specs.Records.{linkNumberIn, linkIn, entryIn, freshAt, flagAt, plainAt, plain, RecordsIn}
+use Rattle.image_records.specs.Records.{linkNumberIn, linkIn, entryIn, freshAt, flagAt, plainAt, plain, RecordsIn}
 
 -- ---- one array: its first i values are those of g, and the others are d, as they were
 

@@ -2,8 +2,8 @@ use native.Mathlib.Omega.{arith}
 use Rattle.image_parts.specs.Layout.{current}
 use Rattle.image_reading.proofs.Tests.{headed-not, headed-version, headed-rest}
 use borrow.Author.Needs.{needs}
-use Rattle.image_reading.proofs.fields.is_headed.Statement.{statement}
-use Rattle.image_reading.proofs.fields.is_headed.Tie as tie
+use Rattle.image_reading.proofs.is_headed.Statement.{statement}
+use Rattle.image_reading.proofs.is_headed.Tie as tie
 
 returns : tie.Need-returns
 returns c = headed-not current _ (c .if1 .taken)

@@ -1,8 +1,8 @@
 use native.Mathlib.Omega.{arith}
 use Rattle.image_parts.specs.Layout.{current}
-use Rattle.image_reading.proofs.Tests.{unlinked-by}
-use Rattle.image_reading.proofs.records.is_unlinked.Statement.{statement}
-use Rattle.image_reading.proofs.records.is_unlinked.Tie as tie
+use Rattle.image_records.proofs.Tests.{unlinked-by}
+use Rattle.image_records.proofs.records.is_unlinked.Statement.{statement}
+use Rattle.image_records.proofs.records.is_unlinked.Tie as tie
 
 link-number-in-requires : tie.Need-link-number-in-requires
 link-number-in-requires c κs = omega arith

@@ -10,7 +10,7 @@ ghost use lib.ListN.{length};
 ghost use Rattle.image_parts.specs.Layout.{current, word, noLink};
 ghost use Rattle.image_parts.specs.Read.{Spaced, numberIn, linksIn};
 ghost use Rattle.state.specs.Lent.{was, is};
-ghost use Rattle.image_reading.specs.Records.{linkNumberIn, linkIn};
+ghost use Rattle.image_records.specs.Records.{linkNumberIn, linkIn};
 
 // The number in the eight bytes from `at` on.
 pub fn word_in(image: &[u8], at: usize) -> u64

@@ -1,8 +1,8 @@
 use native.Mathlib.Omega.{arith}
 use Rattle.image_parts.specs.Layout.{word}
 use Rattle.image_parts.proofs.Loops.{part-length, part-read}
-use Rattle.image_reading.proofs.numbers.word_in.Statement.{statement}
-use Rattle.image_reading.proofs.numbers.word_in.Tie as tie
+use Rattle.image_records.proofs.numbers.word_in.Statement.{statement}
+use Rattle.image_records.proofs.numbers.word_in.Tie as tie
 
 add-read-word : tie.Need-add-read-word
 add-read-word c = omega arith
