@@ -1,9 +1,8 @@
 // The calls as C has them: over a lent image, with one signed number as the answer.
 use calls::INVALID_ENTRY;
+use image_calls::list_over;
 use image_parts::layout::IMAGE;
 use image_writing::write_fields;
-use many::DONE;
-use many::list_over;
 use memory_allocator::Address;
 use memory_allocator::Request;
 use over::call_over;
@@ -19,8 +18,10 @@ ghost use Rattle.image_parts.specs.Layout.{current};
 ghost use Rattle.c_calls.specs.CCalls.{returned, newOver, allocateOver, reserveOver, freeOver, allocatePagesOver, freePagesOver};
 ghost use Rattle.c_calls.specs.Lists.{BatchOver};
 
-mod many;
 mod over;
+
+// What the call that begins an image answers.
+const BEGUN: i64 = 0;
 
 // The image of the empty allocator, over whatever is there.
 #[no_mangle]
@@ -48,7 +49,7 @@ pub extern "C" fn cinghjalofa_new(image: &mut [u8]) -> i64
         &links,
         &links,
     );
-    DONE
+    BEGUN
 }
 
 // `size` bytes from a multiple of 2^order; the answer is the address of the first.

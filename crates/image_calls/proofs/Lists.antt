@@ -1,4 +1,4 @@
--- The C call for a list of calls, by each way through the code. Assumes nothing.
+-- A list of calls over an image, by each way through the code. Assumes nothing.
 use Prim.Native.Nat.{ℕ}
 use mathlib.Core.Bool.{true, false}
 use mathlib.Core.List.{List}
@@ -26,8 +26,7 @@ use Rattle.image_reading.specs.Reading.{stateIn, framed, readable}
 use Rattle.image_reading.proofs.Whole.{state-sized}
 use Rattle.image.proofs.Ways.{framed-frame, unread, read-whole}
 use Rattle.image.proofs.Standing.{stands}
-use Rattle.c_calls.specs.CCalls.{returned, finished, over}
-use Rattle.c_calls.specs.Lists.{listOver, answersOver, BatchOver, Held}
+use Rattle.image_calls.specs.Lists.{returned, finished, over, listOver, answersOver, BatchOver, Held}
 
 module _ (f : Layout) (l calls : List ℕ) (old : List ℤ) where
   pub no-list : readable f l ≡ false → BatchOver f l calls old (signedOf InvalidEntry) l old

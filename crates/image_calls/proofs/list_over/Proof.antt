@@ -2,10 +2,10 @@ use mathlib.Core.Path.{sym, _∙_}
 use Rattle.state.specs.Shown.{pool}
 use Rattle.state.proofs.States.{fresh-state}
 use Rattle.image_parts.specs.Layout.{current}
-use Rattle.c_calls.proofs.Lists.{no-list}
+use Rattle.image_calls.proofs.Lists.{no-list}
 use borrow.Author.Needs.{needs}
-use Rattle.c_calls.proofs.many.list_over.Statement.{statement}
-use Rattle.c_calls.proofs.many.list_over.Tie as tie
+use Rattle.image_calls.proofs.list_over.Statement.{statement}
+use Rattle.image_calls.proofs.list_over.Tie as tie
 
 read-fields-requires : tie.Need-read-fields-requires
 read-fields-requires c κs = fresh-state pool

@@ -1,10 +1,10 @@
 use mathlib.Core.Path.{sym, _∙_}
 use Rattle.image_parts.specs.Layout.{current}
 use Rattle.image_parts.proofs.Lawful.{lawful-current}
-use Rattle.c_calls.proofs.Lists.{held-sized, held-holds, list-unfitted, list-stands, list-written}
+use Rattle.image_calls.proofs.Lists.{held-sized, held-holds, list-unfitted, list-stands, list-written}
 use borrow.Author.Needs.{needs}
-use Rattle.c_calls.proofs.many.serve_held.Statement.{statement}
-use Rattle.c_calls.proofs.many.serve_held.Tie as tie
+use Rattle.image_calls.proofs.serve_held.Statement.{statement}
+use Rattle.image_calls.proofs.serve_held.Tie as tie
 
 list-fits-requires : tie.Need-list-fits-requires
 list-fits-requires c κs = search needs

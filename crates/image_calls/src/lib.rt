@@ -1,4 +1,4 @@
-// A list of calls served on the state that an image holds.
+// A list of calls, served on the state that a lent image holds.
 use batch::in_place::serve_list_in;
 use batch::list_fits;
 use calls::INVALID_ENTRY;
@@ -10,10 +10,7 @@ use state::POOL;
 use state::RecordIndex;
 ghost use Rattle.image_parts.specs.Layout.{current};
 ghost use Rattle.state.specs.Lent.{was, is};
-ghost use Rattle.c_calls.specs.Lists.{BatchOver, HeldIn};
-
-// What a list that was served is answered, and the call that begins an image.
-pub const DONE: i64 = 0;
+ghost use Rattle.image_calls.specs.Lists.{BatchOver, HeldIn};
 
 const INVALID_REQUEST: i64 = -4;
 
@@ -65,7 +62,7 @@ fn serve_held(
             lprev,
             lnext,
         );
-        return DONE;
+        return 0;
     }
     INVALID_REQUEST
 }
