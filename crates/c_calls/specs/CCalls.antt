@@ -11,7 +11,8 @@ use Rattle.calls.specs.declared.Outcome.{Outcome}
 use Rattle.pages.specs.Calls.{PageCall, AllocatePages, FreePages, byteCall}
 use Rattle.image_parts.specs.Layout.{Layout, imageSize}
 use Rattle.image.specs.Reading.{readingOf}
-pub use Rattle.image_calls.specs.Lists.{Returned, returned, finished, over}
+pub use Rattle.image_calls.specs.Lists.{Returned, returned}
+unfoldable pub use Rattle.image_calls.specs.Lists.{finished, over}
 
 -- a call on the state whose image this is; an image of another length, or of no sound state, does not serve
 unfoldable pub callOver : Layout → Call → List ℕ → Returned

@@ -4,7 +4,8 @@ use mathlib.Core.List.{List}
 use lib.ListN.{length}
 use Rattle.batch.specs.Histories.{Door}
 use Rattle.image_parts.specs.Layout.{Layout}
-pub use Rattle.image_calls.specs.Lists.{listOver, answersOver, BatchOver}
+pub use Rattle.image_calls.specs.Lists.{BatchOver}
+unfoldable pub use Rattle.image_calls.specs.Lists.{listOver, answersOver}
 use Rattle.c_calls.specs.Images.{images}
 
 abbrev pub imageDoor : (f : Layout) (l : List ℕ) → Door (images f l)
