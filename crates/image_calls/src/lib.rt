@@ -1,6 +1,6 @@
 // A list of calls, served on the state that a lent image holds.
-use batch::in_place::serve_list_in;
 use batch::list_fits;
+use batch::serve_list_in;
 use calls::INVALID_ENTRY;
 use image_reading::read_fields;
 use image_writing::write_fields;
