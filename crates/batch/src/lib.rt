@@ -2,7 +2,6 @@
 use calls::Answer;
 use calls::Outcome;
 use calls::Request;
-use in_place::serve_list_in;
 use sound::is_sound;
 use state::Address;
 use state::MemoryAllocator;
@@ -17,7 +16,9 @@ ghost use Rattle.sound.specs.IsSound.{isSound};
 ghost use Rattle.batch.specs.InWords.{asked, askedBy, askedAt, wordsOf};
 ghost use Rattle.batch.specs.Lists.{fitted, Served, Serves};
 
-pub mod in_place;
+mod in_place;
+
+pub use in_place::serve_list_in;
 
 // A call has this many words: its kind, and three numbers, of which some calls use two.
 pub const CALL_WORDS: usize = 4;

@@ -1,6 +1,5 @@
 -- Laws of the C calls; Demand states demand 3 over the images, Pages the same in pages, Refusals what a refusal leaves.
 pub mod Ways
-pub mod Lists
 pub mod Images
 pub mod Refusals
 pub mod Demand

@@ -1,36 +1,18 @@
 -- What each C call returns, and every byte of the image that it leaves, for every image and all numbers. Assumes nothing.
 use Prim.Native.Nat.{ℕ}
-use mathlib.Core.Bool.{Bool, cond}
 use mathlib.Core.List.{List}
 use lib.Dec.{eqb}
-use lib.IntN.{ℤ}
 use lib.ListN.{length}
 use Rattle.rules.specs.Rules.{empty, Call, Free, Allocate, Reserve}
 use Rattle.state.specs.State.{stateOf}
-use Rattle.calls.specs.Calls.{isAccepted, signedOf}
-use Rattle.calls.specs.declared.Answer.the-variants.{Accepted, InvalidEntry}
+use Rattle.calls.specs.declared.Answer.the-variants.{Accepted}
 use Rattle.serving.specs.Made.{made}
 use Rattle.calls.specs.declared.Outcome.{Outcome}
 use Rattle.pages.specs.Calls.{PageCall, AllocatePages, FreePages, byteCall}
 use Rattle.image_parts.specs.Layout.{Layout, imageSize}
-use Rattle.image_writing.specs.Writing.{imageOf}
 use Rattle.image.specs.Reading.{readingOf}
-
--- what a call returns, and the image that it leaves
-pub record Returned : Type 0 where
-  pub number : ℤ
-  pub bytes : List ℕ
-
-abbrev pub returned : ℤ → List ℕ → Returned
-returned i l = record { number = i; bytes = l }
-
--- the image of the state that an accepted call leaves; a refusal changes no byte
-unfoldable pub finished : Layout → Outcome → List ℕ → Returned
-finished f r l = returned (signedOf (r .answer)) (cond (isAccepted (r .answer)) (imageOf f (r .state)) l)
-
--- InvalidEntry, unless the image serves
-unfoldable pub over : Layout → Bool → Outcome → List ℕ → Returned
-over f serves r l = cond serves (finished f r l) (returned (signedOf InvalidEntry) l)
+pub use Rattle.image_calls.specs.Lists.{Returned, returned}
+unfoldable pub use Rattle.image_calls.specs.Lists.{finished, over}
 
 -- a call on the state whose image this is; an image of another length, or of no sound state, does not serve
 unfoldable pub callOver : Layout → Call → List ℕ → Returned

@@ -1,45 +1,13 @@
--- What the C call for a list of calls returns, every byte of the image that it leaves, and every place of the answers. Assumes nothing.
+-- The C call for a list of calls, as a door for lists of lists. Assumes nothing.
 use Prim.Native.Nat.{ℕ}
-use mathlib.Core.Bool.{true, cond}
 use mathlib.Core.List.{List}
-use mathlib.Core.Path.{_≡_}
-use denote.Ref.{RefT, now}
-use lib.Dec.{eqb}
-use lib.IntN.{ℤ}
 use lib.ListN.{length}
-use Rattle.state.specs.Lent.{OfFields, fields}
-use Rattle.state.specs.declared.MemoryAllocator.{MemoryAllocator}
-use Rattle.batch.specs.Lists.{listServed, answered}
 use Rattle.batch.specs.Histories.{Door}
 use Rattle.image_parts.specs.Layout.{Layout}
-use Rattle.image_reading.specs.Reading.{stateIn, readable}
-use Rattle.image.specs.Reading.{readingOf}
-use Rattle.c_calls.specs.CCalls.{Returned, returned, over}
+pub use Rattle.image_calls.specs.Lists.{BatchOver}
+unfoldable pub use Rattle.image_calls.specs.Lists.{listOver, answersOver}
 use Rattle.c_calls.specs.Images.{images}
 
--- a list of calls, with so many places, on the state whose image this is
-unfoldable pub listOver : Layout → List ℕ → ℕ → List ℕ → Returned
-listOver f calls places l = over f (eqb (readingOf f l .number) 0) (listServed (f .records) (readingOf f l .state) calls places) l
-
--- the places after it: as they were, where the image does not serve
-unfoldable pub answersOver : Layout → List ℕ → List ℤ → List ℕ → List ℤ
-answersOver f calls old l = cond (eqb (readingOf f l .number) 0) (answered (f .records) (readingOf f l .state) calls old) old
-
--- r is returned, and the image and the places hold what they must
-pub record BatchOver (f : Layout) (l calls : List ℕ) (old : List ℤ) (r : ℤ) (l′ : List ℕ) (now : List ℤ) : Type 0 where
-  pub image-now : returned r l′ ≡ listOver f calls (length old) l
-  pub answers-now : now ≡ answersOver f calls old l
-
--- s is the state whose image this is
-pub record Held (f : Layout) (l : List ℕ) (s : MemoryAllocator) : Type 0 where
-  pub serves : readable f l ≡ true
-  pub state : s ≡ stateIn f l
-
--- so are the ten fields that are lent
-abbrev pub HeldIn : Layout → RefT (List ℕ) → OfFields
-HeldIn f image = fields (Held f (now image))
-
--- the same as a door for lists of lists
 abbrev pub imageDoor : (f : Layout) (l : List ℕ) → Door (images f l)
 imageDoor f l = record {
   answers = λ b m. answersOver f (b .words) (b .places) m;

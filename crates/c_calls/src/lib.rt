@@ -1,9 +1,8 @@
 // The calls as C has them: over a lent image, with one signed number as the answer.
 use calls::INVALID_ENTRY;
+use image_calls::list_over;
 use image_parts::layout::IMAGE;
 use image_writing::write_fields;
-use many::DONE;
-use many::list_over;
 use memory_allocator::Address;
 use memory_allocator::Request;
 use over::call_over;
@@ -20,8 +19,10 @@ ghost use Rattle.c_calls.specs.CCalls.{returned, newOver, allocateOver, 
 ghost use Rattle.c_calls.specs.Lists.{BatchOver};
 
 mod journal;
-mod many;
 mod over;
+
+// What the call that begins an image answers.
+const BEGUN: i64 = 0;
 
 // The image of the empty allocator, over whatever is there.
 #[no_mangle]
@@ -49,7 +50,7 @@ pub extern "C" fn cinghjalofa_new(image: &mut [u8]) -> i64
         &links,
         &links,
     );
-    DONE
+    BEGUN
 }
 
 // `size` bytes from a multiple of 2^order; the answer is the address of the first.

@@ -1,6 +1,6 @@
 // A request served on the state that an image holds.
-use crate::many::list_over;
 use batch::words_of;
+use image_calls::list_over;
 use memory_allocator::Request;
 ghost use mathlib.Core.Path.{_≡_};
 ghost use Rattle.image_parts.specs.Layout.{current};

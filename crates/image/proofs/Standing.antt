@@ -21,7 +21,7 @@ use Rattle.image_parts.proofs.Lawful.{Lawful, small-pool}
 use Rattle.image_parts.proofs.Loops.{both}
 use Rattle.image_writing.specs.Writing.{entryAt, flagIn, Standing}
 use Rattle.image_reading.specs.Reading.{stateIn, framed, readable}
-use Rattle.image_reading.proofs.Decoding.{flag-here}
+use Rattle.image_records.proofs.Decoding.{flag-here}
 use Rattle.image_reading.proofs.Whole.{state-sized}
 use Rattle.image.proofs.Ways.{framed-frame}
 use Rattle.image.proofs.WriteBack.{record-again}

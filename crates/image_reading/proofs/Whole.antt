@@ -26,8 +26,8 @@ use Rattle.image_parts.proofs.Loops.{both, bit-at}
 use Rattle.image_parts.proofs.Parts.{record-room}
 use Rattle.image_parts.proofs.Places.{part-below}
 use Rattle.image_reading.specs.Reading.{stateIn, framed, readable, headed}
-use Rattle.image_reading.specs.Records.{linkNumberIn, linkIn, freshAt, flagAt, plainAt, plain, RecordsIn}
-use Rattle.image_reading.proofs.Decoding.{number-here, start-here, flag-here, link-here, plain-unused, plain-used}
+use Rattle.image_records.specs.Records.{linkNumberIn, linkIn, freshAt, flagAt, plainAt, plain, RecordsIn}
+use Rattle.image_records.proofs.Decoding.{number-here, start-here, flag-here, link-here, plain-unused, plain-used}
 
 pub state-sized : (f : Layout) (l : List ℕ) → Sized (f .records) (stateIn f l)
 unfolding stateIn numbersIn linksIn flagsIn

@@ -1,3 +1,2 @@
 -- What the contracts cite of reading an image.
 pub mod Reading
-pub mod Records

@@ -1,0 +1,2 @@
+-- Laws of calls over an image.
+pub mod Lists

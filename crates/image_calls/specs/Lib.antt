@@ -1,0 +1,2 @@
+-- What the contracts cite of calls over an image.
+pub mod Lists

@@ -1,0 +1,3 @@
+-- Laws of the records in an image.
+pub mod Tests
+pub mod Decoding
