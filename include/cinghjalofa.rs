@@ -314,6 +314,7 @@ impl Own {
     }
 
     /// A call, checked: -2, and nothing changed, where the fields are no sound state.
+    #[inline]
     pub fn call(&mut self, kind: u64, x: u64, y: u64, z: u64) -> i64 {
         if !self.has_bits() {
             return INVALID_ENTRY;
@@ -324,6 +325,7 @@ impl Own {
 
     /// A call, not checked: the answer, and the fields, are those of `call` where the fields are a sound state, and nothing is
     /// promised where they are not. They are one as long as nothing but these functions has written them.
+    #[inline]
     pub fn call_unchecked(&mut self, kind: u64, x: u64, y: u64, z: u64) -> i64 {
         // Safety: no other code can write the fields, so that the bytes of `enabled` are 0 or 1, and the state is sound.
         unsafe { fields_mut!(cinghjalofa_fields_call_unchecked(self, kind, x, y, z)) }
