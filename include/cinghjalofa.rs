@@ -348,10 +348,12 @@ impl Own {
 
     /// The state of an image; -2, and nothing changed, where the bytes are no image of a sound allocator.
     pub fn import(&mut self, image: &[u8]) -> i64 {
-        if !self.has_bits() {
-            self.enabled = [0; RECORDS / 8];
+        let mut read = Self::new();
+        let answer = unsafe { fields_mut!(cinghjalofa_fields_import(read, image.as_ptr(), image.len())) };
+        if answer >= 0 {
+            *self = read;
         }
-        unsafe { fields_mut!(cinghjalofa_fields_import(self, image.as_ptr(), image.len())) }
+        answer
     }
 
     /// The image of the state; -2, and no byte changed, where it is not sound, or the slice is not `IMAGE_BYTES` long.
