@@ -263,7 +263,11 @@ static inline int64_t cinghjalofa_own_batch(struct cinghjalofa_own *own, const u
 
 /* The state of an image, and 0; -2, and nothing changed, where the bytes are no image of a sound allocator. */
 static inline int64_t cinghjalofa_own_import(struct cinghjalofa_own *own, const uint8_t *image, size_t len) {
-    return cinghjalofa_fields_import(CINGHJALOFA_LENT(own), image, len);
+    struct cinghjalofa_own read;
+    cinghjalofa_own_new(&read);
+    const int64_t answer = cinghjalofa_fields_import(CINGHJALOFA_LENT(&read), image, len);
+    if (answer >= 0) *own = read;
+    return answer;
 }
 
 /* Writes the image of the state, and answers 0; -2, and no byte changed, where it is not sound, or `len` is another. */

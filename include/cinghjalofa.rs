@@ -80,93 +80,94 @@ extern "C" {
     ) -> i64;
 }
 
-// The ten fields of a state of one's own, lent one by one; `enabled` points to RECORDS bytes, each of them 0 or 1. `Own` keeps them.
+// The ten fields of a state of one's own, lent one by one: a total, a first record, LISTS heads, and RECORDS of each of the others.
+// A byte of `enabled` is 0 or 1. `Own` keeps them.
 extern "C" {
     fn cinghjalofa_fields_are_sound(
         total: u64,
         first: u16,
-        heads: &[u16; LISTS],
-        start: &[u64; RECORDS],
-        end: &[u64; RECORDS],
+        heads: *const u16,
+        start: *const u64,
+        end: *const u64,
         enabled: *const bool,
-        previous: &[u16; RECORDS],
-        next: &[u16; RECORDS],
-        list_prev: &[u16; RECORDS],
-        list_next: &[u16; RECORDS],
+        previous: *const u16,
+        next: *const u16,
+        list_prev: *const u16,
+        list_next: *const u16,
     ) -> bool;
     fn cinghjalofa_fields_call(
-        total: &mut u64,
-        first: &mut u16,
-        heads: &mut [u16; LISTS],
-        start: &mut [u64; RECORDS],
-        end: &mut [u64; RECORDS],
+        total: *mut u64,
+        first: *mut u16,
+        heads: *mut u16,
+        start: *mut u64,
+        end: *mut u64,
         enabled: *mut bool,
-        previous: &mut [u16; RECORDS],
-        next: &mut [u16; RECORDS],
-        list_prev: &mut [u16; RECORDS],
-        list_next: &mut [u16; RECORDS],
+        previous: *mut u16,
+        next: *mut u16,
+        list_prev: *mut u16,
+        list_next: *mut u16,
         kind: u64,
         x: u64,
         y: u64,
         z: u64,
     ) -> i64;
     fn cinghjalofa_fields_call_unchecked(
-        total: &mut u64,
-        first: &mut u16,
-        heads: &mut [u16; LISTS],
-        start: &mut [u64; RECORDS],
-        end: &mut [u64; RECORDS],
+        total: *mut u64,
+        first: *mut u16,
+        heads: *mut u16,
+        start: *mut u64,
+        end: *mut u64,
         enabled: *mut bool,
-        previous: &mut [u16; RECORDS],
-        next: &mut [u16; RECORDS],
-        list_prev: &mut [u16; RECORDS],
-        list_next: &mut [u16; RECORDS],
+        previous: *mut u16,
+        next: *mut u16,
+        list_prev: *mut u16,
+        list_next: *mut u16,
         kind: u64,
         x: u64,
         y: u64,
         z: u64,
     ) -> i64;
     fn cinghjalofa_fields_batch(
-        total: &mut u64,
-        first: &mut u16,
-        heads: &mut [u16; LISTS],
-        start: &mut [u64; RECORDS],
-        end: &mut [u64; RECORDS],
+        total: *mut u64,
+        first: *mut u16,
+        heads: *mut u16,
+        start: *mut u64,
+        end: *mut u64,
         enabled: *mut bool,
-        previous: &mut [u16; RECORDS],
-        next: &mut [u16; RECORDS],
-        list_prev: &mut [u16; RECORDS],
-        list_next: &mut [u16; RECORDS],
+        previous: *mut u16,
+        next: *mut u16,
+        list_prev: *mut u16,
+        list_next: *mut u16,
         calls: *const u64,
         words: usize,
         answers: *mut i64,
         places: usize,
     ) -> i64;
     fn cinghjalofa_fields_import(
-        total: &mut u64,
-        first: &mut u16,
-        heads: &mut [u16; LISTS],
-        start: &mut [u64; RECORDS],
-        end: &mut [u64; RECORDS],
+        total: *mut u64,
+        first: *mut u16,
+        heads: *mut u16,
+        start: *mut u64,
+        end: *mut u64,
         enabled: *mut bool,
-        previous: &mut [u16; RECORDS],
-        next: &mut [u16; RECORDS],
-        list_prev: &mut [u16; RECORDS],
-        list_next: &mut [u16; RECORDS],
+        previous: *mut u16,
+        next: *mut u16,
+        list_prev: *mut u16,
+        list_next: *mut u16,
         image: *const u8,
         len: usize,
     ) -> i64;
     fn cinghjalofa_fields_export(
         total: u64,
         first: u16,
-        heads: &[u16; LISTS],
-        start: &[u64; RECORDS],
-        end: &[u64; RECORDS],
+        heads: *const u16,
+        start: *const u64,
+        end: *const u64,
         enabled: *const bool,
-        previous: &[u16; RECORDS],
-        next: &[u16; RECORDS],
-        list_prev: &[u16; RECORDS],
-        list_next: &[u16; RECORDS],
+        previous: *const u16,
+        next: *const u16,
+        list_prev: *const u16,
+        list_next: *const u16,
         image: *mut u8,
         len: usize,
     ) -> i64;
@@ -248,14 +249,14 @@ macro_rules! fields_mut {
         $call(
             &mut $own.total,
             &mut $own.first,
-            &mut $own.heads,
-            &mut $own.start,
-            &mut $own.end,
+            $own.heads.as_mut_ptr(),
+            $own.start.as_mut_ptr(),
+            $own.end.as_mut_ptr(),
             $own.enabled.as_mut_ptr().cast::<bool>(),
-            &mut $own.previous,
-            &mut $own.next,
-            &mut $own.list_prev,
-            &mut $own.list_next,
+            $own.previous.as_mut_ptr(),
+            $own.next.as_mut_ptr(),
+            $own.list_prev.as_mut_ptr(),
+            $own.list_next.as_mut_ptr(),
             $($more),*
         )
     };
@@ -266,14 +267,14 @@ macro_rules! fields {
         $call(
             $own.total,
             $own.first,
-            &$own.heads,
-            &$own.start,
-            &$own.end,
+            $own.heads.as_ptr(),
+            $own.start.as_ptr(),
+            $own.end.as_ptr(),
             $own.enabled.as_ptr().cast::<bool>(),
-            &$own.previous,
-            &$own.next,
-            &$own.list_prev,
-            &$own.list_next,
+            $own.previous.as_ptr(),
+            $own.next.as_ptr(),
+            $own.list_prev.as_ptr(),
+            $own.list_next.as_ptr(),
             $($more),*
         )
     };
@@ -314,6 +315,7 @@ impl Own {
     }
 
     /// A call, checked: -2, and nothing changed, where the fields are no sound state.
+    #[inline]
     pub fn call(&mut self, kind: u64, x: u64, y: u64, z: u64) -> i64 {
         if !self.has_bits() {
             return INVALID_ENTRY;
@@ -324,6 +326,7 @@ impl Own {
 
     /// A call, not checked: the answer, and the fields, are those of `call` where the fields are a sound state, and nothing is
     /// promised where they are not. They are one as long as nothing but these functions has written them.
+    #[inline]
     pub fn call_unchecked(&mut self, kind: u64, x: u64, y: u64, z: u64) -> i64 {
         // Safety: no other code can write the fields, so that the bytes of `enabled` are 0 or 1, and the state is sound.
         unsafe { fields_mut!(cinghjalofa_fields_call_unchecked(self, kind, x, y, z)) }
@@ -345,10 +348,12 @@ impl Own {
 
     /// The state of an image; -2, and nothing changed, where the bytes are no image of a sound allocator.
     pub fn import(&mut self, image: &[u8]) -> i64 {
-        if !self.has_bits() {
-            self.enabled = [0; RECORDS / 8];
+        let mut read = Self::new();
+        let answer = unsafe { fields_mut!(cinghjalofa_fields_import(read, image.as_ptr(), image.len())) };
+        if answer >= 0 {
+            *self = read;
         }
-        unsafe { fields_mut!(cinghjalofa_fields_import(self, image.as_ptr(), image.len())) }
+        answer
     }
 
     /// The image of the state; -2, and no byte changed, where it is not sound, or the slice is not `IMAGE_BYTES` long.

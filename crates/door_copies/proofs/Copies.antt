@@ -30,14 +30,16 @@ pub list-below : (n : ℕ) (t : MemoryAllocator) (l : List ℕ) (old now : List 
 unfolding listServed
 list-below n t l old now w h = subst (λ (o : Outcome). addressOf (o .answer) < top) (sym (h .outcome)) (go (isSound n t) (fitted l (length old)))
   where
-    go : (a b : Bool)
-        → addressOf (cond {A = Outcome} a (cond b (record { answer = Accepted (record { 0 = 0 }); state = leftBy n t (asked l) }) (record { answer = InvalidRequest; state = t })) (record { answer = InvalidEntry; state = t }) .answer) < top
+    left : Outcome
+    left = record { answer = Accepted (record { 0 = 0 }); state = leftBy n t (asked l) }
+
+    go : (a b : Bool) → addressOf (cond {A = Outcome} a (cond b left (record { answer = InvalidRequest; state = t })) (record { answer = InvalidEntry; state = t }) .answer) < top
     go true true = lit< tt
     go true false = lit< tt
     go false b = lit< tt
 
-pub listed : (n : ℕ) (s t s′ : MemoryAllocator) (l : List ℕ) (old now : List ℤ) (w : Outcome) (r : ℤ) → t ≡ s → Serves n t l old w now → s′ ≡ w .state → r ≡ signedOf (w .answer)
-    → Lists n s l old r s′ now
+pub listed : (n : ℕ) (s t s′ : MemoryAllocator) (l : List ℕ) (old now : List ℤ) (w : Outcome) (r : ℤ)
+    → t ≡ s → Serves n t l old w now → s′ ≡ w .state → r ≡ signedOf (w .answer) → Lists n s l old r s′ now
 listed n s t s′ l old now w r e h left is = subst (λ (x : MemoryAllocator). Lists n x l old r s′ now) e
     (record { number = is ∙ ap (λ (o : Outcome). signedOf (o .answer)) (h .outcome); state = left ∙ ap (λ (o : Outcome). o .state) (h .outcome); answers = h .answers })
 
@@ -56,6 +58,7 @@ module _ (f : Layout) (l : List ℕ) (s : MemoryAllocator) (a : ImageAnswer) (t 
       let number : readingOf f l .number ≡ 2 = sym (ap (λ (r : Handed). r .number) h) ∙ ap writing.numberOf e in
       record { number = rw number; state = rw number }
 
-pub exported : (f : Layout) (s t : MemoryAllocator) (l l′ : List ℕ) (a : ImageAnswer) (r : ℤ) → t ≡ s → written a l′ ≡ writingOf f t l → r ≡ negℤ (pos (writing.numberOf a)) → Exports f s l r l′
+pub exported : (f : Layout) (s t : MemoryAllocator) (l l′ : List ℕ) (a : ImageAnswer) (r : ℤ)
+    → t ≡ s → written a l′ ≡ writingOf f t l → r ≡ negℤ (pos (writing.numberOf a)) → Exports f s l r l′
 exported f s t l l′ a r e h is = subst (λ (x : MemoryAllocator). Exports f x l r l′) e
     (record { number = is ∙ ap (λ (w : Written). negℤ (pos (w .number))) h; bytes = ap (λ (w : Written). w .bytes) h })

@@ -1,24 +1,18 @@
 -- From what the calls in place leave to what is promised of lent fields. n is the number of records. Assumes nothing.
 use Prim.Native.Nat.{ℕ, _<_, _≤_}
-use mathlib.Core.Bool.{Bool, true, false, cond, _&&_}
-use mathlib.Core.Logic.{_≢_}
-use mathlib.Core.List.{List}
+use mathlib.Core.Bool.{Bool, true, false, _&&_}
 use mathlib.Core.Path.{_≡_, refl, sym, ap, subst, _∙_}
-use lib.Dec.{eqb, lit<}
 use lib.IntN.{ℤ}
-use lib.ListN.{length}
-use borrow.Author.Tests.{eq-eqb, ne-eqb, eqb-true}
 use Rattle.lists.specs.Links.{none}
-use Rattle.rules.specs.Rules.{top, sizeLists, Book, refused}
+use Rattle.rules.specs.Rules.{top, Book, refused}
 use Rattle.rules.specs.Rules as rules
-use Rattle.rules.specs.Sound.{Sound}
-use Rattle.state.specs.State.{Holds, arrays}
+use Rattle.state.specs.State.{Holds}
 use Rattle.state.specs.declared.MemoryAllocator.{MemoryAllocator}
 use Rattle.state.proofs.Book.{holds-sound}
 use Rattle.sound.specs.IsSound.{isSound}
 use Rattle.soundness.specs.Paragraph.{Sized}
 use Rattle.soundness.proofs.Exact.{sound-sized, sound-passes}
-use Rattle.calls.specs.Calls.{callOf, addressOf, signedOf}
+use Rattle.calls.specs.Calls.{addressOf, signedOf}
 use Rattle.calls.specs.Answers.{Answers}
 use Rattle.calls.specs.declared.Answer.{Answer}
 use Rattle.calls.specs.declared.Answer.the-variants.{InvalidEntry, InvalidRequest}
@@ -28,47 +22,11 @@ use Rattle.serving.specs.Made.{judged}
 use Rattle.serving.proofs.Judged.{book-held, sound-judged, unsound-judged}
 use Rattle.batch.specs.InWords.{ruleOf}
 use Rattle.batch.specs.declared.Asked.{Asked}
-use Rattle.batch.specs.declared.Asked.the-variants.{Is, Unknown}
+use Rattle.batch.specs.declared.Asked.the-variants.{Unknown}
 use Rattle.sound_records.proofs.Tests.{and-true}
-use Rattle.door_own.specs.Own.{isSized, soundHere, judgedHere, Judged}
-
--- ---- the places of the arrays
-
-module _ (n : ℕ) (s : MemoryAllocator) where
-  pub sized-passes : Sized n s → isSized n s ≡ true
-  unfolding isSized
-  sized-passes z =
-      rw (
-        eq-eqb _ _ (z .heads),
-        eq-eqb _ _ (z .start),
-        eq-eqb _ _ (z .end),
-        eq-eqb _ _ (z .enabled),
-        eq-eqb _ _ (z .previous),
-        eq-eqb _ _ (z .next),
-        eq-eqb _ _ (z .list-prev),
-        eq-eqb _ _ (z .list-next),
-      )
-
-  pub passes-sized : isSized n s ≡ true → Sized n s
-  unfolding isSized
-  passes-sized h =
-      let a = and-true _ _ h in
-      let b = and-true _ _ (a .1) in
-      let c = and-true _ _ (b .1) in
-      let d = and-true _ _ (c .1) in
-      let e = and-true _ _ (d .1) in
-      let f = and-true _ _ (e .1) in
-      let g = and-true _ _ (f .1) in
-      record {
-        heads = eqb-true _ _ (a .0);
-        start = eqb-true _ _ (b .0);
-        end = eqb-true _ _ (c .0);
-        enabled = eqb-true _ _ (d .0);
-        previous = eqb-true _ _ (e .0);
-        next = eqb-true _ _ (f .0);
-        list-prev = eqb-true _ _ (g .0);
-        list-next = eqb-true _ _ (g .1);
-      }
+use Rattle.door_fields.specs.Fields.{isSized, soundHere}
+use Rattle.door_fields.proofs.Sized.{sized-passes, passes-sized}
+use Rattle.door_own.specs.Own.{judgedHere, Judged}
 
 -- ---- the ways through a call
 

@@ -1,41 +1,17 @@
 -- What the calls on a state of one's own answer and leave, for all fields and all numbers. n is the number of records. Assumes nothing.
 use Prim.Native.Nat.{ℕ}
-use mathlib.Core.Bool.{Bool, cond, _&&_}
-use mathlib.Core.List.{List}
+use mathlib.Core.Bool.{cond}
 use mathlib.Core.Path.{_≡_}
-use lib.Dec.{eqb}
 use lib.IntN.{ℤ}
-use lib.ListN.{length}
 use Rattle.rules.specs.Rules as rules
-use Rattle.rules.specs.Rules.{sizeLists, Book}
+use Rattle.rules.specs.Rules.{Book}
 use Rattle.state.specs.Lent.{OfLent, turns}
 use Rattle.state.specs.declared.MemoryAllocator.{MemoryAllocator}
-use Rattle.sound.specs.IsSound.{isSound}
 use Rattle.calls.specs.Calls.{signedOf}
 use Rattle.calls.specs.declared.Answer.the-variants.{InvalidEntry}
 use Rattle.calls.specs.declared.Outcome.{Outcome}
-use Rattle.calls.specs.declared.Request.the-variants.{Allocate, Free}
-use Rattle.pages.specs.Pages.{bytesOf, raised, freedBytes}
 use Rattle.serving.specs.Made.{judged}
-use Rattle.batch.specs.InWords.{askedOf}
-use Rattle.batch.specs.declared.Asked.{Asked}
-use Rattle.batch.specs.declared.Asked.the-variants.{Is}
-
--- what a kind and three numbers ask for: as in a list, and two kinds more, pages. A page call is one call, of so many bytes
-unfoldable pub askedHere : ℕ → ℕ → ℕ → ℕ → Asked
-askedHere kind x y z =
-    cond (eqb kind 4) (Is (Allocate (bytesOf x) (raised y)))
-    (cond (eqb kind 5) (Is (Free (record { 0 = x }) (freedBytes x y)))
-    (askedOf kind x y z))
-
--- the arrays have as many places as their types say: all that can be lent have
-unfoldable pub isSized : ℕ → MemoryAllocator → Bool
-isSized n s =
-    eqb (length (s .«free_list»)) sizeLists && (eqb (length (s .start)) n && (eqb (length (s .end)) n && (eqb (length (s .enabled)) n
-    && (eqb (length (s .previous)) n && (eqb (length (s .next)) n && (eqb (length (s .«list_prev»)) n && eqb (length (s .«list_next»)) n))))))
-
-abbrev pub soundHere : ℕ → MemoryAllocator → Bool
-soundHere n s = isSized n s && isSound n s
+use Rattle.door_fields.specs.Fields.{isSized}
 
 -- what the call answers and leaves is what the call on a state by value does (`Made.antt`)
 unfoldable pub judgedHere : ℕ → (Book → rules.Answer) → MemoryAllocator → Outcome

@@ -6,87 +6,20 @@ use batch::FREE;
 use batch::RESERVE;
 use calls::INVALID_ENTRY;
 use calls::signed_number;
+use door_fields::in_bytes;
+use door_fields::is_sound_lent;
 use freeing::free_in;
-use kinds::in_bytes;
-use lent::is_sound_lent;
 use reserving::reserve_in;
-use sound::is_sound_in;
 use state::Address;
 use state::LISTS;
-use state::NONE;
 use state::POOL;
-use state::RecordIndex;
-ghost use mathlib.Core.Path.{_≡_};
 ghost use Rattle.batch.specs.InWords.{ruleOf};
-ghost use Rattle.rules.specs.Rules.{empty};
-ghost use Rattle.sound.specs.IsSound.{isSound};
-ghost use Rattle.state.specs.Lent.{was, turns, HoldsSome};
+ghost use Rattle.state.specs.Lent.{HoldsSome};
 ghost use Rattle.state.specs.Shown.{pool};
-ghost use Rattle.state.specs.State.{arrays, stateOf};
-ghost use Rattle.door_own.specs.Own.{askedHere, Judges};
-
-mod kinds;
-mod lent;
+ghost use Rattle.door_fields.specs.Fields.{askedHere};
+ghost use Rattle.door_own.specs.Own.{Judges};
 
 const INVALID_REQUEST: i64 = -4;
-
-// The empty allocator, over whatever is there.
-#[no_mangle]
-pub extern "C" fn cinghjalofa_fields_new(
-    total: &mut u64,
-    first: &mut u16,
-    heads: &mut [u16; LISTS],
-    start: &mut [u64; POOL],
-    end: &mut [u64; POOL],
-    enabled: &mut [bool; POOL],
-    previous: &mut [u16; POOL],
-    next: &mut [u16; POOL],
-    lprev: &mut [u16; POOL],
-    lnext: &mut [u16; POOL],
-)
-    ensures { λ _. ⌜ turns (λ s s′. s′ ≡ stateOf pool empty) total first heads start end enabled previous next lprev lnext ⌝ }
-{
-    *total = 0;
-    *first = NONE;
-    *heads = [NONE; LISTS];
-    *start = [0; POOL];
-    *end = [0; POOL];
-    *enabled = [false; POOL];
-    *previous = [NONE; POOL];
-    *next = [NONE; POOL];
-    *lprev = [NONE; POOL];
-    *lnext = [NONE; POOL];
-}
-
-// Whether the fields are a sound state.
-#[no_mangle]
-pub extern "C" fn cinghjalofa_fields_are_sound(
-    total: u64,
-    first: u16,
-    heads: &[u16; LISTS],
-    start: &[u64; POOL],
-    end: &[u64; POOL],
-    enabled: &[bool; POOL],
-    previous: &[u16; POOL],
-    next: &[u16; POOL],
-    lprev: &[u16; POOL],
-    lnext: &[u16; POOL],
-) -> bool
-    ensures { λ r. ⌜ r ≡ isSound pool (arrays total first (was heads) (was start) (was end) (was enabled) (was previous) (was next) (was lprev) (was lnext)) ⌝ }
-{
-    is_sound_in(
-        total,
-        RecordIndex(first),
-        heads,
-        start,
-        end,
-        enabled,
-        previous,
-        next,
-        lprev,
-        lnext,
-    )
-}
 
 // A call in words, of fields that are a sound state: nothing is checked.
 #[no_mangle]

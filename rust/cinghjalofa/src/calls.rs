@@ -40,6 +40,7 @@ pub(crate) fn batch(image: &mut [u8], calls: &[u64], answers: &mut [i64]) -> i64
 
 /// An address, or minus the refusal number. The library gives no other number; one would mean another library, and
 /// then no state is to be trusted.
+#[inline]
 pub(crate) fn result_of(answer: i64) -> Result<usize, MemoryError> {
     match answer {
         0.. => Ok(answer as usize),

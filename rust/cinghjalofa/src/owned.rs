@@ -68,16 +68,19 @@ impl MemoryAllocator {
     /// Takes `size` bytes at a multiple of 2^`align_order` (0: anywhere) from the smallest free range that fits, of equal
     /// ones from the one that got its size last, and returns their address. A range that would fall into two is passed over
     /// where all records are in use.
+    #[inline]
     pub fn allocate(&mut self, size: usize, align_order: usize) -> Result<usize, MemoryError> {
         self.call(ALLOCATE, size, align_order, 0)
     }
 
     /// Takes these bytes, widened to multiples of 2^`align_order`, out of the free range that holds them all.
+    #[inline]
     pub fn reserve_memory(&mut self, start_address: usize, size: usize, align_order: usize) -> Result<(), MemoryError> {
         self.call(RESERVE, start_address, size, align_order).map(|_| ())
     }
 
     /// Gives bytes to the allocator, none of which may be free already.
+    #[inline]
     pub fn free(&mut self, start: usize, size: usize) -> Result<(), MemoryError> {
         self.call(FREE, start, size, 0).map(|_| ())
     }
@@ -92,12 +95,14 @@ impl MemoryAllocator {
     /// assert_eq!(memory.allocate_pages(1, 0), Ok(0x10000));
     /// assert_eq!(memory.allocate_pages(2, 14), Ok(0x14000));
     /// ```
+    #[inline]
     pub fn allocate_pages(&mut self, count: usize, align_order: usize) -> Result<usize, MemoryError> {
         self.call(ALLOCATE_PAGES, count, align_order, 0)
     }
 
     /// Gives `count` pages to the allocator, no byte of which may be free already. `InvalidRequest` for an address that is
     /// no multiple of [`PAGE_BYTES`](crate::PAGE_BYTES), for 0 pages, and for more than 2^51.
+    #[inline]
     pub fn free_pages(&mut self, address: usize, count: usize) -> Result<(), MemoryError> {
         self.call(FREE_PAGES, address, count, 0).map(|_| ())
     }
@@ -160,6 +165,7 @@ impl MemoryAllocator {
         self.own.is_sound()
     }
 
+    #[inline]
     fn call(&mut self, kind: u64, x: usize, y: usize, z: usize) -> Result<usize, MemoryError> {
         result_of(self.own.call(kind, x as u64, y as u64, z as u64))
     }
@@ -186,26 +192,31 @@ impl UncheckedAllocator {
     }
 
     /// See [`MemoryAllocator::allocate`].
+    #[inline]
     pub fn allocate(&mut self, size: usize, align_order: usize) -> Result<usize, MemoryError> {
         self.call(ALLOCATE, size, align_order, 0)
     }
 
     /// See [`MemoryAllocator::reserve_memory`].
+    #[inline]
     pub fn reserve_memory(&mut self, start_address: usize, size: usize, align_order: usize) -> Result<(), MemoryError> {
         self.call(RESERVE, start_address, size, align_order).map(|_| ())
     }
 
     /// See [`MemoryAllocator::free`].
+    #[inline]
     pub fn free(&mut self, start: usize, size: usize) -> Result<(), MemoryError> {
         self.call(FREE, start, size, 0).map(|_| ())
     }
 
     /// See [`MemoryAllocator::allocate_pages`].
+    #[inline]
     pub fn allocate_pages(&mut self, count: usize, align_order: usize) -> Result<usize, MemoryError> {
         self.call(ALLOCATE_PAGES, count, align_order, 0)
     }
 
     /// See [`MemoryAllocator::free_pages`].
+    #[inline]
     pub fn free_pages(&mut self, address: usize, count: usize) -> Result<(), MemoryError> {
         self.call(FREE_PAGES, address, count, 0).map(|_| ())
     }
@@ -235,6 +246,7 @@ impl UncheckedAllocator {
         self.own.is_sound()
     }
 
+    #[inline]
     fn call(&mut self, kind: u64, x: usize, y: usize, z: usize) -> Result<usize, MemoryError> {
         result_of(self.own.call_unchecked(kind, x as u64, y as u64, z as u64))
     }

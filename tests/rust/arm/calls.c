@@ -1,8 +1,10 @@
 /* Plays the script's example, crates/script/stdin, and a long list of calls, some of them over damaged images, and prints
- * what came of them. It needs no C library, so that the kit's own clang and linker make it for either kind of machine; the
+ * what came of them; then the same calls on a state of one's own, checked and unchecked, beside the image, and how often one
+ * of them differed. It needs no C library, so that the kit's own clang and linker make it for either kind of machine; the
  * two must print the same. */
 
 typedef unsigned char uint8_t;
+typedef unsigned short uint16_t;
 typedef unsigned long size_t;
 typedef unsigned long uint64_t;
 typedef long int64_t;
@@ -15,6 +17,25 @@ int64_t cinghjalofa_reserve_memory(uint8_t *image, size_t len, uint64_t start, u
 int64_t cinghjalofa_free(uint8_t *image, size_t len, uint64_t start, uint64_t size);
 int64_t cinghjalofa_allocate_pages(uint8_t *image, size_t len, uint64_t count, uint64_t order);
 int64_t cinghjalofa_free_pages(uint8_t *image, size_t len, uint64_t address, uint64_t count);
+
+#define FIELDS uint64_t *, uint16_t *, uint16_t *, uint64_t *, uint64_t *, uint8_t *, uint16_t *, uint16_t *, uint16_t *, uint16_t *
+void cinghjalofa_fields_new(FIELDS);
+int64_t cinghjalofa_fields_call(FIELDS, uint64_t kind, uint64_t x, uint64_t y, uint64_t z);
+int64_t cinghjalofa_fields_call_unchecked(FIELDS, uint64_t kind, uint64_t x, uint64_t y, uint64_t z);
+int64_t cinghjalofa_fields_import(FIELDS, const uint8_t *image, size_t len);
+int64_t cinghjalofa_fields_export(uint64_t total, uint16_t first, const uint16_t *, const uint64_t *, const uint64_t *, const uint8_t *,
+                                  const uint16_t *, const uint16_t *, const uint16_t *, const uint16_t *, uint8_t *image, size_t len);
+
+struct own {
+    uint64_t total, start[64], end[64];
+    uint16_t first, heads[12], previous[64], next[64], list_prev[64], list_next[64];
+    uint8_t enabled[64];
+};
+
+#define LENT(own) &(own)->total, &(own)->first, (own)->heads, (own)->start, (own)->end, (own)->enabled, (own)->previous, (own)->next, \
+    (own)->list_prev, (own)->list_next
+#define SHOWN(own) (own)->total, (own)->first, (own)->heads, (own)->start, (own)->end, (own)->enabled, (own)->previous, (own)->next, \
+    (own)->list_prev, (own)->list_next
 
 struct call {
     char kind;
@@ -121,13 +142,54 @@ static uint64_t play_round(uint8_t *image, int round, int64_t *accepted) {
     return digest;
 }
 
+/* The words of a call on a state of one's own. */
+static void in_words(uint64_t *words, const struct call *call) {
+    words[0] = call->kind == 'f' ? 1 : call->kind == 'a' ? 2 : call->kind == 'r' ? 3 : call->kind == 'p' ? 4 : 5;
+    words[1] = call->kind == 'a' ? call->size : call->kind == 'p' ? call->size / 4096 : call->start;
+    words[2] = call->kind == 'a' || call->kind == 'p' ? call->order : call->kind == 'q' ? call->size / 4096 : call->size;
+    words[3] = call->order;
+}
+
+static int64_t differs(const uint8_t *image, struct own *own) {
+    static uint8_t exported[IMAGE];
+    int64_t found = cinghjalofa_fields_export(SHOWN(own), exported, IMAGE) != 0;
+    for (size_t at = 0; at < IMAGE; at++) found += exported[at] != image[at];
+    return found;
+}
+
+/* A round over the image, on a state that is checked at each call, and on one that is not and begins with an image: the answers and the
+ * images that differ; and one more where a damaged state, or a damaged image, is not answered -2. */
+static int64_t play_owned(uint8_t *image, int round) {
+    static struct own checked, unchecked;
+    uint64_t seed = (uint64_t)round, w[4];
+    int64_t found = 0;
+    cinghjalofa_new(image, IMAGE);
+    cinghjalofa_fields_new(LENT(&checked));
+    found += cinghjalofa_fields_import(LENT(&unchecked), image, IMAGE) != 0;
+    for (int at = 0; at < CALLS_IN_A_ROUND; at++) {
+        struct call call = random_call(&seed, round);
+        in_words(w, &call);
+        int64_t answer = play(image, &call);
+        found += cinghjalofa_fields_call(LENT(&checked), w[0], w[1], w[2], w[3]) != answer;
+        found += cinghjalofa_fields_call_unchecked(LENT(&unchecked), w[0], w[1], w[2], w[3]) != answer;
+        found += differs(image, &checked) + differs(image, &unchecked);
+        checked.total ^= 1;
+        found += cinghjalofa_fields_call(LENT(&checked), w[0], w[1], w[2], w[3]) != -2;
+        checked.total ^= 1;
+    }
+    image[5] ^= 1;
+    return found + (cinghjalofa_fields_import(LENT(&unchecked), image, IMAGE) != -2);
+}
+
 void run_all(void) {
     static uint8_t image[IMAGE + 1];
-    int64_t accepted = 0;
+    int64_t accepted = 0, differing = 0;
     print_line("new over a longer slice", cinghjalofa_new(image, IMAGE + 1));
     print_line("new", cinghjalofa_new(image, IMAGE));
     for (int at = 0; at < SCRIPT; at++) print_line("script", play(image, &script[at]));
     for (int round = 0; round < ROUNDS; round++) print_line("digest", (int64_t)play_round(image, round, &accepted));
+    for (int round = 0; round < ROUNDS; round++) differing += play_owned(image, round);
+    print_line("differing on a state of one's own", differing);
     print_line("accepted", accepted);
     system_call(EXIT, 0, 0, 0);
 }

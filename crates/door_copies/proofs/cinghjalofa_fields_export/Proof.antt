@@ -26,7 +26,8 @@ same-length c = search needs
 returns : tie.Need-returns
 returns c =
     let done = c .before .before .before .before in
-    exported current _ _ _ _ (done .write-image .result) _ (done .before .before .state-of .ensures) (done .write-image .ensures) (ap (λ (a : ImageAnswer). negℤ (pos (numberOf a))) (sym (c .enum-told .given .1)))
+    exported current _ _ _ _ (done .write-image .result) _ (done .before .before .state-of .ensures) (done .write-image .ensures)
+    (ap (λ (a : ImageAnswer). negℤ (pos (numberOf a))) (sym (c .enum-told .given .1)))
 
 same-length-2 : tie.Need-same-length-2
 same-length-2 c = search needs
@@ -34,7 +35,8 @@ same-length-2 c = search needs
 returns-2 : tie.Need-returns-2
 returns-2 c =
     let done = c .before .before .before .before in
-    exported current _ _ _ _ (done .write-image .result) _ (done .before .before .state-of .ensures) (done .write-image .ensures) (ap (λ (a : ImageAnswer). negℤ (pos (numberOf a))) (sym (c .enum-told2 .given .1)))
+    exported current _ _ _ _ (done .write-image .result) _ (done .before .before .state-of .ensures) (done .write-image .ensures)
+    (ap (λ (a : ImageAnswer). negℤ (pos (numberOf a))) (sym (c .enum-told2 .given .1)))
 
 pub cinghjalofa-fields-export-spec : {M : Type 1} → statement M
 cinghjalofa-fields-export-spec =

@@ -3,7 +3,7 @@ use borrow.Author.Needs.{needs}
 use lib.Dec.{lit≤}
 use Rattle.state.specs.Shown.{pool}
 use Rattle.batch.specs.InWords.{ruleOf}
-use Rattle.door_own.specs.Own.{askedHere}
+use Rattle.door_fields.specs.Fields.{askedHere}
 use Rattle.door_own.proofs.Own.{sound-here, unsound-here}
 use Rattle.door_own.proofs.cinghjalofa_fields_call.Statement.{statement}
 use Rattle.door_own.proofs.cinghjalofa_fields_call.Tie as tie

@@ -1,9 +1,9 @@
 use mathlib.Core.Path.{sym}
 use borrow.Author.Needs.{needs}
 use borrow.Author.Tests.{eq-eqb, ne-eqb}
-use Rattle.door_own.specs.Own.{askedHere}
-use Rattle.door_own.proofs.kinds.in_bytes.Statement.{statement}
-use Rattle.door_own.proofs.kinds.in_bytes.Tie as tie
+use Rattle.door_fields.specs.Fields.{askedHere}
+use Rattle.door_fields.proofs.kinds.in_bytes.Statement.{statement}
+use Rattle.door_fields.proofs.kinds.in_bytes.Tie as tie
 
 bytes-of-requires : tie.Need-bytes-of-requires
 bytes-of-requires c κs = search needs

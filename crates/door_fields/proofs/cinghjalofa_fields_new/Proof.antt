@@ -1,7 +1,7 @@
 use Rattle.state.specs.Shown.{pool}
 use Rattle.state.proofs.States.{fresh-state}
-use Rattle.door_own.proofs.cinghjalofa_fields_new.Statement.{statement}
-use Rattle.door_own.proofs.cinghjalofa_fields_new.Tie as tie
+use Rattle.door_fields.proofs.cinghjalofa_fields_new.Statement.{statement}
+use Rattle.door_fields.proofs.cinghjalofa_fields_new.Tie as tie
 
 returns : tie.Need-returns
 returns c = fresh-state pool

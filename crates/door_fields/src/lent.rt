@@ -7,7 +7,7 @@ ghost use mathlib.Core.Path.{_≡_};
 ghost use Rattle.state.specs.Lent.{was};
 ghost use Rattle.state.specs.Shown.{pool};
 ghost use Rattle.state.specs.State.{arrays};
-ghost use Rattle.door_own.specs.Own.{isSized, soundHere};
+ghost use Rattle.door_fields.specs.Fields.{isSized, soundHere};
 
 // Whether the arrays have as many places as their types say. They do, and the compiler leaves the question out; but of an array behind a
 // reference the logic does not know it.

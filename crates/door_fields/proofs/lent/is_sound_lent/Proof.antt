@@ -1,9 +1,9 @@
 use mathlib.Core.Path.{sym, _∙_}
 use borrow.Author.Needs.{needs}
 use Rattle.sound_records.proofs.Tests.{and-of, false-and}
-use Rattle.door_own.specs.Own.{isSized}
-use Rattle.door_own.proofs.lent.is_sound_lent.Statement.{statement}
-use Rattle.door_own.proofs.lent.is_sound_lent.Tie as tie
+use Rattle.door_fields.specs.Fields.{isSized}
+use Rattle.door_fields.proofs.lent.is_sound_lent.Statement.{statement}
+use Rattle.door_fields.proofs.lent.is_sound_lent.Tie as tie
 
 is-sized-requires : tie.Need-is-sized-requires
 is-sized-requires c κs = search needs

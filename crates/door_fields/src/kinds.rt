@@ -8,7 +8,7 @@ use pages::raised_order;
 use state::Address;
 ghost use mathlib.Core.Path.{_≡_};
 ghost use Rattle.batch.specs.InWords.{askedBy};
-ghost use Rattle.door_own.specs.Own.{askedHere};
+ghost use Rattle.door_fields.specs.Fields.{askedHere};
 
 pub const ALLOCATE_PAGES: u64 = 4;
 

@@ -1,7 +1,7 @@
 use borrow.Author.Tests.{eq-eqb, ne-eqb}
-use Rattle.door_own.specs.Own.{isSized}
-use Rattle.door_own.proofs.lent.is_sized.Statement.{statement}
-use Rattle.door_own.proofs.lent.is_sized.Tie as tie
+use Rattle.door_fields.specs.Fields.{isSized}
+use Rattle.door_fields.proofs.lent.is_sized.Statement.{statement}
+use Rattle.door_fields.proofs.lent.is_sized.Tie as tie
 
 returns : tie.Need-returns
 unfolding isSized

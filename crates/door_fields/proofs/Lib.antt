@@ -1,0 +1,2 @@
+-- Laws of ten lent fields.
+pub mod Sized

@@ -1,0 +1,2 @@
+-- What the contracts of ten lent fields cite.
+pub mod Fields

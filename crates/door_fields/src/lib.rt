@@ -1,0 +1,76 @@
+// A state of one's own, as ten fields in the caller's memory that are lent one by one: a new one, its check, and the kinds of call on it.
+use sound::is_sound_in;
+use state::LISTS;
+use state::NONE;
+use state::POOL;
+use state::RecordIndex;
+ghost use mathlib.Core.Path.{_≡_};
+ghost use Rattle.rules.specs.Rules.{empty};
+ghost use Rattle.sound.specs.IsSound.{isSound};
+ghost use Rattle.state.specs.Lent.{was, turns};
+ghost use Rattle.state.specs.Shown.{pool};
+ghost use Rattle.state.specs.State.{arrays, stateOf};
+
+mod kinds;
+mod lent;
+
+pub use kinds::in_bytes;
+pub use lent::is_sound_lent;
+
+// The empty allocator, over whatever is there.
+#[no_mangle]
+pub extern "C" fn cinghjalofa_fields_new(
+    total: &mut u64,
+    first: &mut u16,
+    heads: &mut [u16; LISTS],
+    start: &mut [u64; POOL],
+    end: &mut [u64; POOL],
+    enabled: &mut [bool; POOL],
+    previous: &mut [u16; POOL],
+    next: &mut [u16; POOL],
+    lprev: &mut [u16; POOL],
+    lnext: &mut [u16; POOL],
+)
+    ensures { λ _. ⌜ turns (λ s s′. s′ ≡ stateOf pool empty) total first heads start end enabled previous next lprev lnext ⌝ }
+{
+    *total = 0;
+    *first = NONE;
+    *heads = [NONE; LISTS];
+    *start = [0; POOL];
+    *end = [0; POOL];
+    *enabled = [false; POOL];
+    *previous = [NONE; POOL];
+    *next = [NONE; POOL];
+    *lprev = [NONE; POOL];
+    *lnext = [NONE; POOL];
+}
+
+// Whether the fields are a sound state.
+#[no_mangle]
+pub extern "C" fn cinghjalofa_fields_are_sound(
+    total: u64,
+    first: u16,
+    heads: &[u16; LISTS],
+    start: &[u64; POOL],
+    end: &[u64; POOL],
+    enabled: &[bool; POOL],
+    previous: &[u16; POOL],
+    next: &[u16; POOL],
+    lprev: &[u16; POOL],
+    lnext: &[u16; POOL],
+) -> bool
+    ensures { λ r. ⌜ r ≡ isSound pool (arrays total first (was heads) (was start) (was end) (was enabled) (was previous) (was next) (was lprev) (was lnext)) ⌝ }
+{
+    is_sound_in(
+        total,
+        RecordIndex(first),
+        heads,
+        start,
+        end,
+        enabled,
+        previous,
+        next,
+        lprev,
+        lnext,
+    )
+}
