@@ -1,2 +1,3 @@
 -- Laws of the program's turns.
 pub mod Lines
+pub mod Turns

@@ -6,7 +6,7 @@ use journal_audit::Verdict;
 use journal_audit::audit_part;
 use journal_audit::start_audit;
 use journal_audit::verdict_of;
-use journal_blocks::has_version;
+use journal_blocks::VERSION;
 use libc::STDIN_FILENO;
 use libc::STDOUT_FILENO;
 use streams::read_some;
@@ -161,6 +161,22 @@ fn audit_all(buf: &mut [u8], first: usize)
     }
 }
 
+// The first bytes are read: a version byte, or nothing is to be audited.
+fn open(buf: &mut [u8], count: usize)
+    requires { ⌜ (count ≤ length (now buf)) × (length (now buf) ≡ 65536) ⌝ }
+{
+    if count == 0 {
+        report(Verdict::NoVersion);
+        return;
+    }
+    if buf[0] != VERSION {
+        report(Verdict::NoVersion);
+        return;
+    }
+    let first = shift(buf, 1, count);
+    audit_all(buf, first);
+}
+
 fn main() {
     let mut buf = io::large_buffer();
     let read = read_some(
@@ -171,11 +187,5 @@ fn main() {
     if read.failed {
         return;
     }
-    let count = read.bytes;
-    if has_version(&buf[..count]) {
-        let first = shift(&mut buf, 1, count);
-        audit_all(&mut buf, first);
-        return;
-    }
-    report(Verdict::NoVersion);
+    open(&mut buf, read.bytes);
 }
