@@ -1,3 +1,2 @@
 -- Laws of the program's turns.
-pub mod Lines
 pub mod Turns

@@ -7,14 +7,12 @@ use journal_audit::audit_part;
 use journal_audit::start_audit;
 use journal_audit::verdict_of;
 use journal_blocks::VERSION;
+use journal_prints::report;
+use journal_prints::shift;
 use libc::STDIN_FILENO;
-use libc::STDOUT_FILENO;
 use streams::read_some;
-use streams::write_all;
-use texts::put_bytes;
-use texts::put_number;
 ghost use mathlib.Core.Path.{_≡_};
-ghost use Prim.Native.Nat.{_+_, _-_, _<_, _≤_, _^_};
+ghost use Prim.Native.Nat.{_+_, _<_, _≤_, _^_};
 ghost use lib.ListN.{length};
 ghost use Rattle.state.specs.Shown.{pool};
 ghost use Rattle.state.specs.Sound.{SoundState};
@@ -27,51 +25,6 @@ pub struct Sitting {
     pub auditing: Auditing,
     pub held: usize,
     pub over: bool,
-}
-
-// A word and a number, as a line.
-fn put_line(out: &mut [u8], word: &[u8], number: u64) -> usize
-    ensures { λ r. ⌜ r ≤ length (is out) ⌝ }
-{
-    let first = put_bytes(out, 0, word);
-    let last = put_number(out, first, number);
-    put_bytes(out, last, b"\n")
-}
-
-fn put_verdict(out: &mut [u8], verdict: Verdict) -> usize
-    ensures { λ r. ⌜ r ≤ length (is out) ⌝ }
-{
-    match verdict {
-        Verdict::Agrees(total) => put_line(out, b"agrees ", total),
-        Verdict::Differs(index) => put_line(out, b"differs ", index),
-        Verdict::Truncated(index) => put_line(out, b"truncated ", index),
-        Verdict::UnknownCall(index) => put_line(out, b"unknown-call ", index),
-        Verdict::WrongLength(index) => put_line(out, b"wrong-length ", index),
-        Verdict::NoVersion => put_line(out, b"no ", 2),
-    }
-}
-
-fn report(verdict: Verdict) {
-    let mut out = [0u8; 64];
-    let end = put_verdict(&mut out, verdict);
-    write_all(
-        STDOUT_FILENO,
-        &out[..end],
-        b"failed: the report cannot be written",
-    );
-}
-
-// The bytes of the buffer from `from` to `to` go to its front.
-fn shift(buf: &mut [u8], from: usize, to: usize) -> usize
-    requires { ⌜ (from ≤ to) × (to ≤ length (now buf)) ⌝ }
-    ensures { λ r. ⌜ r ≡ to - from ⌝ }
-{
-    let mut i = from;
-    while i < to {
-        buf[i - from] = buf[i];
-        i += 1;
-    }
-    to - from
 }
 
 fn wants_more(stop: Stop) -> bool {

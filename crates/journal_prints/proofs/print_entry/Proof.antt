@@ -1,20 +1,20 @@
 use mathlib.Core.Path.{sym}
 use lib.Seq.{length-take-le}
 use borrow.Author.Needs.{needs}
-use Rattle.audit.proofs.report.Statement.{statement}
-use Rattle.audit.proofs.report.Tie as tie
+use Rattle.journal_prints.proofs.print_entry.Statement.{statement}
+use Rattle.journal_prints.proofs.print_entry.Tie as tie
 
-slice-aggregate-put-verdict : tie.Need-slice-aggregate-put-verdict
-slice-aggregate-put-verdict c = search needs
+slice-aggregate-put-entry : tie.Need-slice-aggregate-put-entry
+slice-aggregate-put-entry c = search needs
 
-put-verdict-requires : tie.Need-put-verdict-requires
-put-verdict-requires c κs = search needs
+put-entry-requires : tie.Need-put-entry-requires
+put-entry-requires c κs = search needs
 
 array-share-prefix-out : tie.Need-array-share-prefix-out
 array-share-prefix-out c = search needs
 
 slice-aggregate-write-all : tie.Need-slice-aggregate-write-all
-slice-aggregate-write-all c = let told = c .before .before in sym (length-take-le _ _ (told .put-verdict .ensures))
+slice-aggregate-write-all c = let told = c .before .before in sym (length-take-le _ _ (told .put-entry .ensures))
 
 slice-aggregate-write-all-2 : tie.Need-slice-aggregate-write-all-2
 slice-aggregate-write-all-2 c = search needs
@@ -25,12 +25,12 @@ write-all-requires c κs = search needs
 returns : tie.Need-returns
 returns c = search needs
 
-pub report-spec : {M : Type 1} → statement M
-report-spec =
+pub print-entry-spec : {M : Type 1} → statement M
+print-entry-spec =
     tie.close
     (tie.spec
-    slice-aggregate-put-verdict
-    put-verdict-requires
+    slice-aggregate-put-entry
+    put-entry-requires
     array-share-prefix-out
     slice-aggregate-write-all
     slice-aggregate-write-all-2

@@ -1,8 +1,8 @@
 use native.Mathlib.Omega.{arith}
-use Rattle.audit.proofs.Lines.{within}
+use Rattle.journal_prints.proofs.Lines.{within}
 use borrow.Author.Needs.{needs}
-use Rattle.audit.proofs.put_line.Statement.{statement}
-use Rattle.audit.proofs.put_line.Tie as tie
+use Rattle.journal_prints.proofs.put_line.Statement.{statement}
+use Rattle.journal_prints.proofs.put_line.Tie as tie
 
 put-bytes-requires : tie.Need-put-bytes-requires
 put-bytes-requires c κs = search needs

@@ -2,8 +2,8 @@ use Prim.Native.Nat.{_-_, _≤_}
 use mathlib.Core.Path.{_≡_, refl}
 use native.Mathlib.Omega.{arith}
 use lib.ListN.{length, length-set}
-use Rattle.audit.proofs.shift.Statement.{statement}
-use Rattle.audit.proofs.shift.Tie as tie
+use Rattle.journal_prints.proofs.shift.Statement.{statement}
+use Rattle.journal_prints.proofs.shift.Tie as tie
 
 abbrev Inv-loop : tie.InvT-loop
 Inv-loop buf₀ from to i₀ buf i = (from ≤ i) × (i ≤ to) × (length buf ≡ length buf₀)
