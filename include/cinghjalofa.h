@@ -56,6 +56,21 @@
 /* The words of a call in a list: its kind, then its numbers as typed. A word that a call does not use is not looked at. */
 #define CINGHJALOFA_CALL_WORDS 4
 
+/* The first byte of a journal, and the words of a call with its answer: kind, three numbers (0 where the call has two), the
+ * answer's 64 bits. */
+#define CINGHJALOFA_JOURNAL_VERSION 1
+#define CINGHJALOFA_ENTRY_WORDS 5
+
+/* The bytes of the longest block of a journal. */
+#define CINGHJALOFA_LONGEST_BLOCK 35
+
+/* What an audit reports. */
+#define CINGHJALOFA_AGREES 0       /* every answer is the one of the replay; the figure is the final total */
+#define CINGHJALOFA_DIFFERS 1      /* the figure is the index, from 0, of the first call whose answer differs, */
+#define CINGHJALOFA_TRUNCATED 2    /* of the block that the end of the journal cuts off, */
+#define CINGHJALOFA_UNKNOWN_CALL 3 /* of a block with an unknown call byte, */
+#define CINGHJALOFA_WRONG_LENGTH 4 /* or of one with a length that is not its call's */
+
 #ifdef __cplusplus
 extern "C" {
 #endif
@@ -127,6 +142,45 @@ int64_t cinghjalofa_free_pages(uint8_t *image, size_t len, uint64_t address, uin
  * after the other, give the same answers and the same image.
  */
 int64_t cinghjalofa_batch(uint8_t *image, size_t len, const uint64_t *calls, size_t words, int64_t *answers, size_t places);
+
+/*
+ * A journal: the version byte, then a block for each call with its answer. A block is the length of what follows in 2 bytes,
+ * 25 or 33; the call byte, 1, 2 or 3 as the kinds above; the call's numbers as typed, 8 bytes each; and the call's answer in
+ * 8. All numbers are big-endian, the answer in two's complement. The bytes are the caller's: a box that appends to a file
+ * lends CINGHJALOFA_LONGEST_BLOCK bytes, writes each block at 0, and appends as many bytes as were answered.
+ *
+ * Of these four calls `journal` points to `len` bytes; what was said above of `image` holds of it, and of `entry` and `figure`,
+ * which are aligned as their numbers are and do not overlap it. A refusal writes nothing.
+ */
+
+/*
+ * Writes the version byte. Answers 1, the place of the first block.
+ *   -4  len is 0
+ */
+int64_t cinghjalofa_journal_begin(uint8_t *journal, size_t len);
+
+/*
+ * Writes the block of one call from the place `at` on, and answers the place after it. z is not looked at where the call has
+ * two numbers.
+ *   -4  kind is not 1, 2 or 3, or the block does not fit
+ */
+int64_t cinghjalofa_journal_write(uint8_t *journal, size_t len, uint64_t at, uint64_t kind, uint64_t x, uint64_t y, uint64_t z, int64_t answer);
+
+/*
+ * Reads the block at the place `at` into five words, and answers the place after it; 0 where `at` is len. Words behind the
+ * fifth keep their contents.
+ *   -4  at is above len
+ *   -2  no whole good block stands there
+ *   -4  words is below 5
+ */
+int64_t cinghjalofa_journal_read(const uint8_t *journal, size_t len, uint64_t at, uint64_t *entry, size_t words);
+
+/*
+ * Replays the journal from empty, with the rules of this build, and compares each answer whole. Answers one of the five
+ * reports and writes its figure. It stops at the first trouble of any kind, and looks at nothing behind it.
+ *   -2  there is no version byte, or another; *figure stays as it was
+ */
+int64_t cinghjalofa_audit(const uint8_t *journal, size_t len, uint64_t *figure);
 
 /* ---- A state of one's own */
 

@@ -60,6 +60,24 @@ pub const NO_RECORD: u16 = u16::MAX;
 /// The words of a call in a list: its kind, then its numbers as typed. A word that a call does not use is not looked at.
 pub const CALL_WORDS: usize = 4;
 
+/// The first byte of a journal.
+pub const JOURNAL_VERSION: u8 = 1;
+/// The words of a call with its answer: kind, three numbers (0 where the call has two), the answer's 64 bits.
+pub const ENTRY_WORDS: usize = 5;
+/// The bytes of the longest block of a journal.
+pub const LONGEST_BLOCK: usize = 35;
+
+/// What an audit reports: every answer is the one of the replay, and the figure is the final total;
+pub const AGREES: i64 = 0;
+/// or the figure is the index, from 0, of the first call whose answer differs,
+pub const DIFFERS: i64 = 1;
+/// of the block that the end of the journal cuts off,
+pub const TRUNCATED: i64 = 2;
+/// of a block with an unknown call byte,
+pub const UNKNOWN_CALL: i64 = 3;
+/// or of one with a length that is not its call's.
+pub const WRONG_LENGTH: i64 = 4;
+
 // What a caller of these owes: `image` points to `len` bytes that may be read and written, and that nobody else reads or
 // writes during the call. With `len` 0 it is not followed and may be null. So of `calls`, whose numbers are only read, and of
 // `answers`; each is aligned as its numbers are, and the three do not overlap.
@@ -78,6 +96,10 @@ extern "C" {
         answers: *mut i64,
         places: usize,
     ) -> i64;
+    pub fn cinghjalofa_journal_begin(journal: *mut u8, len: usize) -> i64;
+    pub fn cinghjalofa_journal_write(journal: *mut u8, len: usize, at: u64, kind: u64, x: u64, y: u64, z: u64, answer: i64) -> i64;
+    pub fn cinghjalofa_journal_read(journal: *const u8, len: usize, at: u64, entry: *mut u64, words: usize) -> i64;
+    pub fn cinghjalofa_audit(journal: *const u8, len: usize, figure: *mut u64) -> i64;
 }
 
 // The ten fields of a state of one's own, lent one by one: a total, a first record, LISTS heads, and RECORDS of each of the others.
@@ -243,6 +265,34 @@ pub fn batch(image: &mut [u8], calls: &[u64], answers: &mut [i64]) -> i64 {
     let (len, words, places) = (image.len(), calls.len(), answers.len());
     unsafe { cinghjalofa_batch(image.as_mut_ptr(), len, calls.as_ptr(), words, answers.as_mut_ptr(), places) }
 }
+
+/// Writes the version byte of a journal. Answers 1, the place of the first block.
+/// - -4: the slice is empty
+pub fn journal_begin(journal: &mut [u8]) -> i64 {
+    unsafe { cinghjalofa_journal_begin(journal.as_mut_ptr(), journal.len()) }
+}
+
+/// Writes the block of one call, in words, and its answer, from the place `at` on, and answers the place after it. The third
+/// number is not looked at where the call has two.
+/// - -4: the kind is not 1, 2 or 3, or the block does not fit
+pub fn journal_write(journal: &mut [u8], at: u64, call: &[u64; CALL_WORDS], answer: i64) -> i64 {
+    let [kind, x, y, z] = *call;
+    unsafe { cinghjalofa_journal_write(journal.as_mut_ptr(), journal.len(), at, kind, x, y, z, answer) }
+}
+
+/// Reads the block at the place `at` into five words, and answers the place after it; 0 where `at` is the journal's length.
+/// - -4: `at` is above the journal's length
+/// - -2: no whole good block stands there
+/// - -4: `entry` has fewer than five words
+pub fn journal_read(journal: &[u8], at: u64, entry: &mut [u64]) -> i64 {
+    unsafe { cinghjalofa_journal_read(journal.as_ptr(), journal.len(), at, entry.as_mut_ptr(), entry.len()) }
+}
+
+/// Replays the journal from empty, with the rules of this build, and compares each answer whole. Answers one of the five
+/// reports and writes its figure.
+/// - -2: there is no version byte, or another; the figure stays as it was
+pub fn audit(journal: &[u8], figure: &mut u64) -> i64 {
+    unsafe { cinghjalofa_audit(journal.as_ptr(), journal.len(), figure) }
 
 macro_rules! fields_mut {
     ($call:ident($own:ident $(, $more:expr)*)) => {

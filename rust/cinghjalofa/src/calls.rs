@@ -7,6 +7,8 @@ use crate::MemoryError;
 #[path = "../../../include/cinghjalofa.rs"]
 mod library;
 
+pub(crate) use library::{audit, journal_begin, journal_read, journal_write};
+pub(crate) use library::{AGREES, DIFFERS, ENTRY_WORDS, LONGEST_BLOCK, TRUNCATED, UNKNOWN_CALL, WRONG_LENGTH};
 pub(crate) use library::{ALLOCATE, ALLOCATE_PAGES, CALL_WORDS, FREE, FREE_PAGES, IMAGE_BYTES, PAGE_BYTES, RESERVE};
 pub(crate) use library::{Own, RECORDS};
 

@@ -7,6 +7,7 @@ compile_error!("cinghjalofa: addresses have 64 bits");
 
 mod calls;
 mod image;
+pub mod journal;
 mod list;
 mod owned;
 mod show;

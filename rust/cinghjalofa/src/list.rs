@@ -30,6 +30,16 @@ impl Call {
     }
 }
 
+impl Call {
+    pub(crate) const fn of_words(words: [u64; calls::CALL_WORDS]) -> Self {
+        Self(words)
+    }
+
+    pub(crate) const fn words(&self) -> &[u64; calls::CALL_WORDS] {
+        &self.0
+    }
+}
+
 impl CallAnswer {
     /// The address of an allocation, 0 for another call, or why it was refused.
     pub fn result(self) -> Result<usize, MemoryError> {

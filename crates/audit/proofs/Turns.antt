@@ -1,0 +1,29 @@
+-- Where the audit of a part has led. n is the number of records. Assumes nothing.
+use Prim.Native.Nat.{ℕ, _+_, _≤_}
+use mathlib.Core.List.{List, []}
+use mathlib.Core.Path.{_≡_, sym, subst}
+use lib.ListN.{length}
+use native.Mathlib.Omega.{arith}
+use Rattle.lists.specs.Links.{none}
+use Rattle.state.specs.Sound.{SoundState}
+use Rattle.journal_audit.specs.Audit.{auditedOn}
+use Rattle.journal_audit.specs.declared.Auditing.{Auditing}
+use Rattle.journal_audit.specs.declared.Audited.{Audited}
+use Rattle.journal_audit.proofs.Parts.{part-kept, part-sound}
+use Rattle.audit.specs.Sittings.{Ready}
+use Rattle.audit.specs.declared.Sitting.{Sitting}
+
+pub record Led (n : ℕ) (a : Auditing) (size : ℕ) (d : Audited) : Type 0 where
+  pub sound : SoundState n (d .auditing .state)
+  pub used : d .used ≤ size
+  pub few : d .auditing .index ≤ a .index + size
+
+pub led : (n : ℕ) → n ≤ none → (a : Auditing) (p : List ℕ) (size : ℕ) → length p ≡ size → SoundState n (a .state) → (d : Audited) → d ≡ auditedOn n a p → Led n a size d
+led n small a p size e h d is =
+    let k = part-kept n small p [] a h in
+    let w = k .within in
+    let f = k .few in
+    subst (Led n a size) (sym is) (record { sound = part-sound n small p [] a h; used = omega arith; few = omega arith })
+
+pub more-passed : (n : ℕ) (s : Sitting) (buf : List ℕ) (k m : ℕ) → k ≤ m → Ready n s buf k → Ready n s buf m
+more-passed n s buf k m h r = let f = r .few in record { sound = r .sound; held = r .held; few = omega arith }
