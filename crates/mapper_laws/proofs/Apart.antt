@@ -13,6 +13,9 @@ use Rattle.mapper_laws.specs.declared.Mapping.{Mapping}
 use Rattle.mapper_laws.specs.Tree.{Entry, Ends, Leads, table, sum, leadsTo}
 use Rattle.mapper_laws.specs.Mapping.{meets, opens, leafWord, tableWord, wants, mapped}
 
+pub in-page : (p j : ℕ) → j < 512 → (512 * p + j) / 512 ≡ p
+in-page p j h = ap (λ (y : ℕ). (y + j) / 512) (mul-comm 512 p) ∙ digits-div p h
+
 module _ (pageOf : ℕ → ℕ) where
   -- p is the page of a table that E leads to
   unfoldable pub Has : ℕ → Entry → ℕ → Type 0
@@ -27,9 +30,6 @@ module _ (pageOf : ℕ → ℕ) where
   Apart (suc h) (Leads d f) =
       ((j : ℕ) → j < 512 → Apart h (f j) × (Has h (f j) (pageOf d) → ⊥))
       × ((i j : ℕ) → i < 512 → j < 512 → i ≢ j → (p : ℕ) → Has h (f i) p → Has h (f j) p → ⊥)
-
-  pub in-page : (p j : ℕ) → j < 512 → (512 * p + j) / 512 ≡ p
-  in-page p j h = ap (λ (y : ℕ). (y + j) / 512) (mul-comm 512 p) ∙ digits-div p h
 
   -- words that no table of the tree has may change
   pub same-tree : (u v : ℕ → ℕ) (h d : ℕ) → ((w : ℕ) → Has h (leadsTo pageOf u h d) (w / 512) → u w ≡ v w) → leadsTo pageOf u h d ≡ leadsTo pageOf v h d

@@ -10,5 +10,5 @@ pub mod Refines
 pub mod Translated
 pub mod Once
 pub mod Determined
-pub mod Listed
+pub mod Arena
 pub mod Windows

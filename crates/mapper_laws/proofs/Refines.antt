@@ -254,7 +254,7 @@ module _ (q : Mapping) (page pageOf : ℕ → ℕ) where
       table-ready rd room = record {
         entries = λ j lt. ap (λ (k : ℕ). leadsTo pageOf (s .word) h (s .word (512 * pageOf d + k))) (sym (mod-eq-of-lt lt));
         apart = λ j lt. rd .apart .0 j lt .0;
-        own = λ j lt. in-page pageOf (pageOf d) j lt;
+        own = λ j lt. in-page (pageOf d) j lt;
         off = λ j lt x g y. rd .apart .0 j lt .1 (subst (Has pageOf h (old j)) g y);
         two = rd .apart .1;
         fresh-here = λ k l m g. rd .fresh-tables k l m (inl g);
@@ -322,10 +322,10 @@ module _ (q : Mapping) (page pageOf : ℕ → ℕ) where
       fresh-ready x rd room =
           let w = wants-fresh h e x o in
           record {
-            entries = λ j lt. let p = in-page pageOf (free n) j lt in
+            entries = λ j lt. let p = in-page (free n) j lt in
               cleared h (begun .word) (512 * free n + j) (put-there i (tableWord (page n)) (512 * free n + j) (hand (free n) s) (λ g. rd .fresh-here n (omega arith) (omega arith) (sym p ∙ ap (λ (y : ℕ). y / 512) g)) ∙ hand-here (free n) (512 * free n + j) s p);
             apart = λ j lt. nothing-apart h;
-            own = λ j lt. in-page pageOf (free n) j lt;
+            own = λ j lt. in-page (free n) j lt;
             off = λ j lt x g. nothing-has h 0 x;
             two = λ k j lk lj d x g. absurd (nothing-has h 0 x g);
             fresh-here = λ k l m g. let z = once k n m (omega arith) g in let y : ⊥ = omega arith in y;

@@ -9,13 +9,7 @@ use native.Mathlib.Nat.{div-add-mod', mod-lt, div-lt-iff-lt-mul}
 use lib.Dec.{T, leb, ltb, eqb, leb→le, le→leb, ltb→lt, lt→ltb, eqb→eq, eqb-refl}
 use Rattle.laws.proofs.Lists.{if, and-l, and-r, and-i, T-no, T-or-not, T-true, T-false}
 use Rattle.mapper_laws.specs.Tree.{In, Once}
-
-abbrev pub inWindow : ℕ → ℕ → ℕ → Bool
-inWindow lo w p = leb lo p && ltb p (lo + w)
-
-unfoldable pub part : ℕ → ℕ → List ℕ → List ℕ
-part lo w [] = []
-part lo w (p ∷ l) = cond (inWindow lo w p) (p ∷ part lo w l) (part lo w l)
+use Rattle.mapper_laws.specs.Marks.{inWindow, part, Marks, marking, fine, marks}
 
 in-part : (lo w p : ℕ) (l : List ℕ) → T (inWindow lo w p) → In p l → In p (part lo w l)
 unfolding part
@@ -36,24 +30,7 @@ module _ (w n : ℕ) (some : 0 < w) where
     once-by-windows l (λ p i. all p (inr i)) (λ k few. if (inWindow (k * w) w x) (λ m. Once m → Once (part (k * w) w l)) (λ _ o. o .1) (λ _ o. o) (ok k few)),
   )
 
--- ---- marks of one window: a run over the list stops at a number that is marked already
-
--- clear k of the marks m: no mark stands at k (past the end there is none)
-pub record Marks : Type 0 where
-  pub at : ℕ → Bool
-
-abbrev pub marking : ℕ → Marks → Marks
-marking p m = record { at = λ x. cond (eqb x p) true (m .at x) }
-
--- what the code answers, in the order in which the numbers come
-unfoldable pub fine : List ℕ → Marks → Bool
-fine [] m = true
-fine (p ∷ l) m = not (m .at p) && fine l (marking p m)
-
-unfoldable pub marks : List ℕ → Marks → Marks
-marks [] m = m
-marks (p ∷ l) m = marks l (marking p m)
-
+-- ---- marks of one window
 pub fine-append : (a b : List ℕ) (m : Marks) → fine (a ++ b) m ≡ (fine a m && fine b (marks a m))
 unfolding fine marks
 fine-append [] b m = refl

@@ -1,4 +1,7 @@
--- What a reader must believe of the mapping: tables and what they lead to, what a mapping makes of them, and its stores in their order.
+-- What a reader must believe of the mapping: tables and what they lead to, what a mapping makes of them, its stores in their order; marks,
+-- and the words of an arena.
 pub mod Tree
 pub mod Mapping
 pub mod Stores
+pub mod Marks
+pub mod Arena

@@ -69,7 +69,7 @@ walkFrom mem (suc h) d x =
 -- ---- the registers: T0SZ and SL0 of VTCR_EL2, BADDR of VTTBR_EL2
 
 abbrev pub t0sz : ℕ → ℕ
-t0sz vtcr = bits 0 6 vtcr
+t0sz vtcr = vtcr % 2 ^ 6
 
 -- 0 for level 2, 1 for level 1, 2 for level 0; with 3, for level 3, nothing is walked
 abbrev pub sl0 : ℕ → ℕ
