@@ -6,6 +6,10 @@ use Rattle.mapper_rules.specs.Walk.{span, Attributes, Translation, To, isBlock}
 use Rattle.mapper_laws.specs.declared.Mapping.{Mapping}
 use Rattle.mapper_laws.specs.Tree.{Entry, Ends, Leads, table, sum, some}
 
+-- S2AP: bit 1 for writable, bit 0 for readable
+unfoldable pub permissionOf : Bool → Bool → ℕ
+permissionOf readable writable = cond writable 2 0 + cond readable 1 0
+
 abbrev pub inRange : Mapping → ℕ → Bool
 inRange q x = leb (q .from) x && ltb x (q .past)
 

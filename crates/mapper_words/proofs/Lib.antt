@@ -1,0 +1,1 @@
+-- Laws beside the proofs of the functions.
