@@ -8,13 +8,13 @@ use lib.Dec.{ltb, ltb→lt, lt→ltb}
 use borrow.Author.Tests.{lt-ltb}
 use Rattle.laws.proofs.Lists.{same-test}
 
-pub beyond : (last start more : ℕ) → last < start → true ≡ ltb last (start + more)
-beyond last start more h = sym (lt-ltb last (start + more) (omega arith))
+pub beyond : (x a b : ℕ) → x < a → true ≡ ltb x (a + b)
+beyond x a b h = sym (lt-ltb x (a + b) (omega arith))
 
-pub moved : (last start more : ℕ) → start ≤ last → ltb (last - start) more ≡ ltb last (start + more)
-moved last start more h = same-test (ltb (last - start) more) (ltb last (start + more))
-    (λ t. let l = ltb→lt (last - start) more t in lt→ltb last (start + more) (omega arith))
-    (λ t. let l = ltb→lt last (start + more) t in lt→ltb (last - start) more (omega arith))
+pub moved : (x a b : ℕ) → a ≤ x → ltb (x - a) b ≡ ltb x (a + b)
+moved x a b h = same-test (ltb (x - a) b) (ltb x (a + b))
+    (λ t. let l = ltb→lt (x - a) b t in lt→ltb x (a + b) (omega arith))
+    (λ t. let l = ltb→lt x (a + b) t in lt→ltb (x - a) b (omega arith))
 
 -- a piece ends above the top exactly if its last address lies past the last one below the top
 pub ends-above : (top start size : ℕ) → 0 < top → size ≢ 0 → ltb (top - 1) (start + (size - 1)) ≡ ltb top (start + size)

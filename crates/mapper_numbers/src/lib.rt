@@ -70,14 +70,14 @@ pub fn last_input(vtcr: u64) -> u64
     u64::MAX >> (vtcr % T0SZ_VALUES)
 }
 
-// The address `more` after the start lies past the last one.
-fn is_past(last: u64, start: u64, more: u64) -> bool
-    ensures { λ r. ⌜ r ≡ ltb last (start + more) ⌝ }
+// x is less than a + b, a sum that may not fit.
+pub fn below_sum(x: u64, a: u64, b: u64) -> bool
+    ensures { λ r. ⌜ r ≡ ltb x (a + b) ⌝ }
 {
-    if last < start {
+    if x < a {
         return true;
     }
-    last - start < more
+    x - a < b
 }
 
 fn bad_range(vtcr: u64, output: u64, input: u64, size: u64) -> bool
@@ -95,11 +95,11 @@ fn bad_range(vtcr: u64, output: u64, input: u64, size: u64) -> bool
     if input % PAGE != 0 {
         return true;
     }
-    let past = is_past(LAST_OUTPUT, output, size - 1);
+    let past = below_sum(LAST_OUTPUT, output, size - 1);
     if past {
         return true;
     }
-    is_past(last_input(vtcr), input, size - 1)
+    below_sum(last_input(vtcr), input, size - 1)
 }
 
 // Whether a map with these numbers is refused for them; `base` is the address of the arena's first byte.

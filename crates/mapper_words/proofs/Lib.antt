@@ -1,1 +1,3 @@
--- Laws beside the proofs of the functions.
+-- Heights, the test of one leaf, and the sums of a word.
+pub mod Heights
+pub mod Leaves

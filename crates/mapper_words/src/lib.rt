@@ -1,10 +1,10 @@
 // Words of tables, and which of them a mapping asks for. A height is the number of levels below: 0 at level 3, 3 at level 0, and any
 // number above 3 is taken as 3. Sums that do not fit into 64 bits are cut, where a word is made, and never made elsewhere.
 use mapper_laws::Mapping;
+use mapper_numbers::below_sum;
 use std::num::wrapping_add_u64;
 ghost use mathlib.Core.Path.{_≡_};
-ghost use Prim.Native.Nat.{_+_, _%_, _^_};
-ghost use lib.Dec.{ltb};
+ghost use Prim.Native.Nat.{_%_, _^_};
 ghost use Rattle.mapper_rules.specs.Walk.{span, isTable, isBlock};
 ghost use Rattle.mapper_laws.specs.Tree.{pageOf};
 ghost use Rattle.mapper_laws.specs.Mapping.{permissionOf, meets, fits, leafWord, tableWord};
@@ -116,21 +116,11 @@ pub fn leaf_word(q: Mapping, height: u64, e: u64) -> u64
     wrapping_add_u64(output, below)
 }
 
-// x lies before the end of so many bytes from e on.
-fn before_end(x: u64, e: u64, bytes: u64) -> bool
-    ensures { λ r. ⌜ r ≡ ltb x (e + bytes) ⌝ }
-{
-    if x < bytes {
-        return true;
-    }
-    x - bytes < e
-}
-
 // Some of the inputs from e on, of one word, are asked for.
 pub fn word_meets(q: Mapping, height: u64, e: u64) -> bool
     ensures { λ r. ⌜ r ≡ meets q (capped height) e ⌝ }
 {
-    let met = before_end(q.from, e, span_of(height));
+    let met = below_sum(q.from, e, span_of(height));
     if met {
         return e < q.past;
     }
@@ -145,7 +135,7 @@ pub fn word_fits(q: Mapping, height: u64, e: u64) -> bool
         return false;
     }
     let bytes = span_of(height);
-    let cut = before_end(q.past, e, bytes);
+    let cut = below_sum(q.past, e, bytes);
     if cut {
         return false;
     }

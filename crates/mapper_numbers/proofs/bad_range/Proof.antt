@@ -26,11 +26,11 @@ returns-4 : tie.Need-returns-4
 unfolding badRange
 returns-4 c = rw (ne-eqb _ _ (c .before .before .before .if1 .left), eq-eqb _ _ (c .before .before .if2 .left), eq-eqb _ _ (c .before .if3 .left), ne-eqb _ _ (c .if4 .taken))
 
-sub-is-past : tie.Need-sub-is-past
-sub-is-past c = search needs
+sub-below-sum : tie.Need-sub-below-sum
+sub-below-sum c = search needs
 
-is-past-requires : tie.Need-is-past-requires
-is-past-requires c κs = search needs
+below-sum-requires : tie.Need-below-sum-requires
+below-sum-requires c κs = search needs
 
 returns-5 : tie.Need-returns-5
 unfolding badRange
@@ -38,7 +38,7 @@ returns-5 c =
     let asked = c .before in
     let start = asked .before .before .before .before .before in
     let size = asked .before .before .before .before .if1 .left in
-    let above = sym (ends-above outputTop (start .args .output) (start .args .size) (lit< tt) size) ∙ sym (asked .is-past .ensures) ∙ c .if5 .taken in
+    let above = sym (ends-above outputTop (start .args .output) (start .args .size) (lit< tt) size) ∙ sym (asked .below-sum .ensures) ∙ c .if5 .taken in
     rw (
       ne-eqb _ _ size,
       eq-eqb _ _ (asked .before .before .before .if2 .left),
@@ -50,11 +50,11 @@ returns-5 c =
 last-input-requires : tie.Need-last-input-requires
 last-input-requires c κs = search needs
 
-sub-is-past-2 : tie.Need-sub-is-past-2
-sub-is-past-2 c = search needs
+sub-below-sum-2 : tie.Need-sub-below-sum-2
+sub-below-sum-2 c = search needs
 
-is-past-requires-2 : tie.Need-is-past-requires-2
-is-past-requires-2 c κs = search needs
+below-sum-requires-2 : tie.Need-below-sum-requires-2
+below-sum-requires-2 c κs = search needs
 
 returns-6 : tie.Need-returns-6
 unfolding badRange
@@ -62,7 +62,7 @@ returns-6 c =
     let asked = c .before .before .before in
     let start = asked .before .before .before .before .before in
     let size = asked .before .before .before .before .if1 .left in
-    let below = sym (ends-above outputTop (start .args .output) (start .args .size) (lit< tt) size) ∙ sym (asked .is-past .ensures) ∙ c .before .before .if5 .left in
+    let below = sym (ends-above outputTop (start .args .output) (start .args .size) (lit< tt) size) ∙ sym (asked .below-sum .ensures) ∙ c .before .before .if5 .left in
     rw (
       ne-eqb _ _ size,
       eq-eqb _ _ (asked .before .before .before .if2 .left),
@@ -70,7 +70,7 @@ returns-6 c =
       eq-eqb _ _ (asked .before .if4 .left),
       below,
     )
-    (c .is-past2 .ensures
+    (c .below-sum2 .ensures
     ∙ ap (λ (y : ℕ). ltb y (start .args .input + (start .args .size - 1))) (c .before .last-input .ensures)
     ∙ ends-above (inputTop (start .args .vtcr)) (start .args .input) (start .args .size) (power-pos (64 - start .args .vtcr % 64)) size)
 
@@ -82,10 +82,10 @@ bad-range-spec =
     returns-2
     returns-3
     returns-4
-    sub-is-past
-    is-past-requires
+    sub-below-sum
+    below-sum-requires
     returns-5
     last-input-requires
-    sub-is-past-2
-    is-past-requires-2
+    sub-below-sum-2
+    below-sum-requires-2
     returns-6)
