@@ -1,1 +1,2 @@
--- Laws beside the proofs of the functions.
+-- Words cleared one after another.
+pub mod Clearing

@@ -1,55 +1,49 @@
+use mathlib.Core.Path.{_≡_}
+use Prim.Native.Nat.{_-_, _≤_}
+use native.Mathlib.Omega.{arith}
+use borrow.Author.Needs.{needs}
+use Rattle.mapper_laws.specs.Arena.{cleared}
+use Rattle.mapper_arena.proofs.Clearing.{page-small, none-cleared, one-more, all-cleared, cleared-length}
 use Rattle.mapper_arena.proofs.clear_table.Statement.{statement}
 use Rattle.mapper_arena.proofs.clear_table.Tie as tie
-use Rattle.mapper_arena.proofs.clear_table.Reads as reads
-use Rattle.mapper_arena.proofs.clear_table.Lts as lts
-use Rattle.mapper_arena.proofs.put_word.Reads as put-word-reads
-use Rattle.mapper_words.proofs.table_page.Reads as table-page-reads
 
 abbrev Inv-loop : tie.InvT-loop
-Inv-loop arena₀ first d at j₀ arena j = ?
+Inv-loop arena₀ first d at j₀ arena j = (j ≤ 512) × (arena ≡ cleared j first arena₀ at)
 
 abbrev μ-loop : tie.MeasureT-loop
-μ-loop arena₀ first d at j₀ arena j = ?
+μ-loop arena₀ first d at j₀ arena j = 512 - j
 
--- src/lib.rt:43:28
 table-page-requires : tie.Need-table-page-requires Inv-loop μ-loop
-table-page-requires c κs = ?
+table-page-requires c κs = search needs
 
--- src/lib.rt:43:14
 mul-at : tie.Need-mul-at Inv-loop μ-loop
-mul-at c = ?
+mul-at c = let s = page-small _ _ (c .table-page .ensures) in omega arith
 
--- src/lib.rt:45:5
 loop-holds : tie.Need-loop-holds Inv-loop μ-loop
-loop-holds c = ?
+loop-holds c = (omega arith, none-cleared _ _ _)
 
--- src/lib.rt:46:32
 add-put-word : tie.Need-add-put-word Inv-loop μ-loop
-add-put-word c = ?
+add-put-word c = let s = page-small _ _ (c .before .before .before .table-page .ensures) in omega arith
 
--- src/lib.rt:46:9
 put-word-requires : tie.Need-put-word-requires Inv-loop μ-loop
-put-word-requires c κs = ?
+put-word-requires c κs = search needs
 
--- src/lib.rt:47:9
 add-j : tie.Need-add-j Inv-loop μ-loop
-add-j c = ?
+add-j c = omega arith
 
--- src/lib.rt:45:5
 loop-less : tie.Need-loop-less Inv-loop μ-loop
-loop-less c = ?
+loop-less c = omega arith
 
--- src/lib.rt:45:5
 loop-again : tie.Need-loop-again Inv-loop μ-loop
-loop-again c = ?
+loop-again c =
+    let put = c .before .before in
+    (omega arith, one-more _ _ _ _ _ (put .before .before .before .loop .inv .1) (put .put-word .ensures))
 
--- src/lib.rt:40:1
 same-length : tie.Need-same-length Inv-loop μ-loop
-same-length c = ?
+same-length c = rw (c .before .loop .inv .1) (cleared-length _ _ _ _)
 
--- src/lib.rt:40:1
 returns : tie.Need-returns Inv-loop μ-loop
-returns c = ?
+returns c = all-cleared 512 _ _ {n = c .before .loop .j} (c .before .loop .inv .1) (omega arith) (c .before .before .table-page .ensures)
 
 pub clear-table-spec : {M : Type 1} → statement M
 clear-table-spec =

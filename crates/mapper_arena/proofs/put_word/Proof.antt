@@ -1,32 +1,27 @@
+use mathlib.Core.Path.{sym}
+use lib.Seq.{set-out}
+use borrow.Author.Tests.{le-leb, lt-leb}
 use borrow.Author.Needs.{needs}
 use Rattle.mapper_arena.proofs.put_word.Statement.{statement}
 use Rattle.mapper_arena.proofs.put_word.Tie as tie
-use Rattle.mapper_arena.proofs.put_word.Reads as reads
-use Rattle.mapper_arena.proofs.put_word.Lts as lts
 
--- src/lib.rt:31:9
 returns : tie.Need-returns
-returns c = ?
+returns c = rw (lt-leb _ _ (c .if1 .taken))
 
--- src/lib.rt:35:9
 mul-arena : tie.Need-mul-arena
 mul-arena c = search needs
 
--- src/lib.rt:35:9
 slice-write-arena : tie.Need-slice-write-arena
 slice-write-arena c = search needs
 
--- src/lib.rt:27:1
 same-length : tie.Need-same-length
 same-length c = search needs
 
--- src/lib.rt:27:1
 returns-2 : tie.Need-returns-2
-returns-2 c = ?
+returns-2 c = rw (le-leb _ _ (c .before .if1 .left))
 
--- src/lib.rt:27:1
 returns-3 : tie.Need-returns-3
-returns-3 c = ?
+returns-3 c = rw (le-leb _ _ (c .before .if1 .left)) (sym (set-out _ _ _ (c .if2 .left)))
 
 pub put-word-spec : {M : Type 1} → statement M
 put-word-spec =
