@@ -42,5 +42,5 @@ module _ (pageOf : ℕ → ℕ) where
           → cond c (Leads d (table (λ j. leadsTo pageOf u h (u (512 * pageOf d + j))))) (Ends d) ≡ cond c (Leads d (table (λ j. leadsTo pageOf v h (v (512 * pageOf d + j))))) (Ends d)
       go false same below = refl
       go true same below = ap (Leads d) (fun-ext (λ j.
-        below (j % 512) (λ w g. same w (inr (j % 512, mod-lt j (lit< tt), subst (λ (i : ℕ). Has h (leadsTo pageOf u h (u (512 * pageOf d + i))) (w / 512)) (sym (mod-mod j 512)) g)))
-        ∙ ap (leadsTo pageOf v h) (same (512 * pageOf d + j % 512) (inl (in-page (pageOf d) (j % 512) (mod-lt j (lit< tt)))))))
+          below (j % 512) (λ w g. same w (inr (j % 512, mod-lt j (lit< tt), subst (λ (i : ℕ). Has h (leadsTo pageOf u h (u (512 * pageOf d + i))) (w / 512)) (sym (mod-mod j 512)) g)))
+          ∙ ap (leadsTo pageOf v h) (same (512 * pageOf d + j % 512) (inl (in-page (pageOf d) (j % 512) (mod-lt j (lit< tt)))))))

@@ -18,10 +18,10 @@ module _ (b : ℕ) (A : List ℕ) where
   other i v w d = elim (T-or-not (leb b i)) [
     | inr n ↦ rw (T-false (leb b i) n)
     | inl y ↦ rw (T-true (leb b i) y) (elim (T-or-not (leb b w)) [
-        | inl l ↦ let low = leb→le b w l in let from = leb→le b i y in
-            rw (T-true (leb b w) l) (getD-set-other A (i - b) (w - b) v 0 (λ g. d (let z : w ≡ i = omega arith in z)))
-        | inr l ↦ rw (T-false (leb b w) l)
-      ])
+      | inl l ↦ let low = leb→le b w l in let from = leb→le b i y in
+          rw (T-true (leb b w) l) (getD-set-other A (i - b) (w - b) v 0 (λ g. d (let z : w ≡ i = omega arith in z)))
+      | inr l ↦ rw (T-false (leb b w) l)
+    ])
   ]
 
   -- a word of the arena
@@ -42,9 +42,9 @@ module _ (b : ℕ) (A : List ℕ) where
       here = elim (T-or-not (leb b i)) [
         | inr n ↦ rw (T-false (leb b i) n)
         | inl y ↦ rw (T-true (leb b i) y) (elim (T-or-not (ltb (i - b) (length A))) [
-            | inl l ↦ getD-set-same A (i - b) 0 0 (ltb→lt (i - b) (length A) l)
-            | inr l ↦ let past = nltb→le (i - b) (length A) l in rw (set-out A (i - b) 0 past) (List·getD-eq-default A 0 {n = i - b} past)
-          ])
+          | inl l ↦ getD-set-same A (i - b) 0 0 (ltb→lt (i - b) (length A) l)
+          | inr l ↦ let past = nltb→le (i - b) (length A) l in rw (set-out A (i - b) 0 past) (List·getD-eq-default A 0 {n = i - b} past)
+        ])
       ]
 
 module _ (b : ℕ) (A : List ℕ) (v w : ℕ) where
@@ -62,7 +62,7 @@ module _ (b : ℕ) (A : List ℕ) (v w : ℕ) where
     | inr e ↦ let d = neq w (v + n) e in
         rw (T-false (eqb w (v + n)) e)
         (within n ∙ ap (λ (c : Bool). cond (leb v w && c) 0 (shows b A w)) (same-test (ltb w (v + n)) (ltb w (v + suc n))
-          (λ t. let l = ltb→lt w (v + n) t in lt→ltb w (v + suc n) (omega arith)) (λ t. let l = ltb→lt w (v + suc n) t in lt→ltb w (v + n) (omega arith))))
+        (λ t. let l = ltb→lt w (v + n) t in lt→ltb w (v + suc n) (omega arith)) (λ t. let l = ltb→lt w (v + suc n) t in lt→ltb w (v + n) (omega arith))))
   ]
 
 -- the words of page p
@@ -76,6 +76,7 @@ cleared-shows b A p w = within b A (512 * p) w 512 ∙ ap (λ (c : Bool). cond c
         let e : 512 * p + (w - 512 * p) ≡ w = omega arith in
         let d : w / 512 ≡ p = ap (λ (y : ℕ). y / 512) (sym e) ∙ in-page p (w - 512 * p) (omega arith) in
         rw d (eqb-refl p)
+
     of-it : T (eqb (w / 512) p) → T (leb (512 * p) w && ltb w (512 * p + 512))
     of-it t =
         let e = eqb→eq (w / 512) p t in

@@ -57,8 +57,10 @@ module _ (q : Mapping) (page pageOf : ℕ → ℕ) where
     where
       all : ℕ
       all = sum 512 (λ j. wants q h (e + j * span h) (Ends 0))
+
       new : ℕ → Entry
       new = table (λ j. mapped q page h (e + j * span h) (suc n + sum j (λ i. wants q h (e + i * span h) (Ends 0))) (Ends 0))
+
       go : (c m : Bool) → (((j : ℕ) × (j < 512) × Has pageOf h (new j) p) → ((j : ℕ) × (j < 512) × Has pageOf h (Ends 0) p) ⊎ Between (suc n) (suc n + all) p)
           → Has pageOf (suc h) (cond c (Leads (tableWord (page n)) new) (cond m (Ends (leafWord q (suc h) e)) (Ends d))) p → ⊥ ⊎ Between n (n + cond c (suc all) 0) p
       go true m b (inl e) = inr (n, omega arith, omega arith, e)
@@ -69,10 +71,13 @@ module _ (q : Mapping) (page pageOf : ℕ → ℕ) where
     where
       all : ℕ
       all = sum 512 (λ j. wants q h (e + j * span h) (f j))
+
       new : ℕ → Entry
       new = table (λ j. mapped q page h (e + j * span h) (n + sum j (λ i. wants q h (e + i * span h) (f i))) (f j))
+
       Old : Type 0
       Old = (p ≡ pageOf d) ⊎ ((j : ℕ) × (j < 512) × Has pageOf h (f j) p)
+
       go : (c m : Bool) → (((j : ℕ) × (j < 512) × Has pageOf h (new j) p) → ((j : ℕ) × (j < 512) × Has pageOf h (f j) p) ⊎ Between n (n + all) p)
           → Has pageOf (suc h) (cond c (Leads d new) (cond m (Ends (leafWord q (suc h) e)) (Leads d f))) p → Old ⊎ Between n (n + cond c all 0) p
       go true m b (inl e) = inl (inl e)

@@ -185,17 +185,17 @@ module _ (q : Mapping) where
       (λ m. after-none 0 e x E m low high)
   mapped-walk page (suc h) e n (Ends d) x s begins t low high = if (opens q (suc h) e) (λ E′. After (suc h) (Ends d) E′ x)
       (λ o. let i = index-of h e x begins low high in
-        let j = x / span h % 512 in
-        through h _ x _
-        ∙ ap (λ (k : ℕ). walkEntry h (mapped q page h (e + k * span h) (suc n + sum k (λ i. wants q h (e + i * span h) (Ends 0))) (Ends 0)) x) (mod-mod (x / span h) 512)
-        ∙ mapped-walk page h (e + j * span h) _ (Ends 0) x s (begins-below h e j begins) (zero-free h (e + j * span h)) (i .low) (i .high)
-        ∙ rw (zero-faults h x, absent-faults h e d x t o))
+      let j = x / span h % 512 in
+      through h _ x _
+      ∙ ap (λ (k : ℕ). walkEntry h (mapped q page h (e + k * span h) (suc n + sum k (λ i. wants q h (e + i * span h) (Ends 0))) (Ends 0)) x) (mod-mod (x / span h) 512)
+      ∙ mapped-walk page h (e + j * span h) _ (Ends 0) x s (begins-below h e j begins) (zero-free h (e + j * span h)) (i .low) (i .high)
+      ∙ rw (zero-faults h x, absent-faults h e d x t o))
       (λ o. closed (suc h) e x (Ends d) s begins low high o)
   mapped-walk page (suc h) e n (Leads d f) x s begins t low high = if (opens q (suc h) e) (λ E′. After (suc h) (Leads d f) E′ x)
       (λ o. let i = index-of h e x begins low high in
-        let j = x / span h % 512 in
-        through h _ x _
-        ∙ ap (λ (k : ℕ). walkEntry h (mapped q page h (e + k * span h) (n + sum k (λ i. wants q h (e + i * span h) (f i))) (f k)) x) (mod-mod (x / span h) 512)
-        ∙ mapped-walk page h (e + j * span h) _ (f j) x s (begins-below h e j begins) (below-free h e d f t o j (i .few)) (i .low) (i .high)
-        ∙ rw (through h d x f))
+      let j = x / span h % 512 in
+      through h _ x _
+      ∙ ap (λ (k : ℕ). walkEntry h (mapped q page h (e + k * span h) (n + sum k (λ i. wants q h (e + i * span h) (f i))) (f k)) x) (mod-mod (x / span h) 512)
+      ∙ mapped-walk page h (e + j * span h) _ (f j) x s (begins-below h e j begins) (below-free h e d f t o j (i .few)) (i .low) (i .high)
+      ∙ rw (through h d x f))
       (λ o. closed (suc h) e x (Leads d f) s begins low high o)

@@ -54,9 +54,9 @@ two-of zero f i j p hi hj d o x y = let z : ⊥ = omega arith in z
 two-of (suc n) f i j p hi hj d o x y = elim (T-or-not (eqb i n)) [
   | inl e ↦ let e′ = eqb→eq i n e in parts (joined n f) (f n) o .none p (in-joined n f j p (let g : j ≢ n = λ g. d (e′ ∙ sym g) in omega arith) y) (subst (λ (k : ℕ). In p (f k)) e′ x)
   | inr e ↦ let g = neq i n e in elim (T-or-not (eqb j n)) [
-      | inl k ↦ parts (joined n f) (f n) o .none p (in-joined n f i p (omega arith) x) (subst (λ (m : ℕ). In p (f m)) (eqb→eq j n k) y)
-      | inr k ↦ let m = neq j n k in two-of n f i j p (omega arith) (omega arith) d (parts (joined n f) (f n) o .first) x y
-    ]
+    | inl k ↦ parts (joined n f) (f n) o .none p (in-joined n f i p (omega arith) x) (subst (λ (m : ℕ). In p (f m)) (eqb→eq j n k) y)
+    | inr k ↦ let m = neq j n k in two-of n f i j p (omega arith) (omega arith) d (parts (joined n f) (f n) o .first) x y
+  ]
 ]
 
 module _ (pageOf : ℕ → ℕ) where

@@ -117,8 +117,8 @@ module _ (q : Mapping) (page pageOf : ℕ → ℕ) where
     leaf-refined : (h e i : ℕ) (s : Stored) → T (not (opens q (suc h) e)) → T (meets q (suc h) e) → Refined (suc h) e i s (put i (leafWord q (suc h) e) s) (tree (suc h) i s)
     leaf-refined h e i s o m = record {
       became = ap (leadsTo pageOf (put i (leafWord q (suc h) e) s .word) (suc h)) (put-here i (leafWord q (suc h) e) s)
-        ∙ leads-ends (put i (leafWord q (suc h) e) s .word) h (leafWord q (suc h) e) (leaf-ends h e o m)
-        ∙ sym (mapped-leaf h e (s .handed) (tree (suc h) i s) o m);
+          ∙ leads-ends (put i (leafWord q (suc h) e) s .word) h (leafWord q (suc h) e) (leaf-ends h e o m)
+          ∙ sym (mapped-leaf h e (s .handed) (tree (suc h) i s) o m);
       count = let z = wants-none h e (tree (suc h) i s) o in omega arith;
       frame = λ w d a. put-there i (leafWord q (suc h) e) w s d;
     }
@@ -180,8 +180,8 @@ module _ (q : Mapping) (page pageOf : ℕ → ℕ) where
           let word : t′ .word (first + j) ≡ t .word (first + j) = r .frame (first + j) (λ g. other (let z : j ≡ k = omega arith in z)) (new ((first + j) / 512) at-j) in
           ap (leadsTo pageOf (t′ .word) h) word
           ∙ sym (same-tree pageOf (t .word) (t′ .word) h (t .word (first + j)) (λ w g.
-            let g′ = subst (λ (Y : Entry). Has pageOf h Y (w / 512)) is g in
-            sym (r .frame w (λ z. own (w / 512) (subst (λ (y : ℕ). Own (y / 512)) (sym z) (b .own k few)) g′) (apart (w / 512) g′))))
+          let g′ = subst (λ (Y : Entry). Has pageOf h Y (w / 512)) is g in
+          sym (r .frame w (λ z. own (w / 512) (subst (λ (y : ℕ). Own (y / 512)) (sym z) (b .own k few)) g′) (apart (w / 512) g′))))
           ∙ is
 
       next : (k : ℕ) (t : Stored) → k < m → Refines h → Table → Upto k t → Upto (suc k) (store q page pageOf h (e + k * span h) (first + k) t)
@@ -216,23 +216,23 @@ module _ (q : Mapping) (page pageOf : ℕ → ℕ) where
                   (λ x own y. elim (was x y) [ inl o ↦ b .off j few-j x own o | inr z ↦ b .fresh-here (z .0) (let l = z .1 in omega arith) (let y = z .2 in omega arith) (subst Own (z .3) own) ])
                   (λ x y o. elim (was x y) [
                     | inl v ↦ elim (came x o) [
-                        | inl o′ ↦ b .two j k few-j few d x v o′
-                        | inr z ↦ b .fresh-tables (z .0) (let l = z .1 in omega arith) (let y = z .2 in omega arith) j few-j (subst (Has pageOf h (f j)) (z .3) v)
-                      ]
+                      | inl o′ ↦ b .two j k few-j few d x v o′
+                      | inr z ↦ b .fresh-tables (z .0) (let l = z .1 in omega arith) (let y = z .2 in omega arith) j few-j (subst (Has pageOf h (f j)) (z .3) v)
+                    ]
                     | inr z ↦ elim (came x o) [
-                        | inl o′ ↦ b .fresh-tables (z .0) (let l = z .1 in omega arith) (let y = z .2 in omega arith) k few (subst (Has pageOf h (f k)) (z .3) o′)
-                        | inr z′ ↦ let same = once (z .0) (z′ .0) (let y = z .2 in omega arith) (let y = z′ .2 in omega arith) (sym (z .3) ∙ z′ .3) in let y = z .2 in let l = z′ .1 in omega arith
-                      ]
+                      | inl o′ ↦ b .fresh-tables (z .0) (let l = z .1 in omega arith) (let y = z .2 in omega arith) k few (subst (Has pageOf h (f k)) (z .3) o′)
+                      | inr z′ ↦ let same = once (z .0) (z′ .0) (let y = z .2 in omega arith) (let y = z′ .2 in omega arith) (sym (z .3) ∙ z′ .3) in let y = z .2 in let l = z′ .1 in omega arith
+                    ]
                   ])
             ];
             todo = λ j le lt. kept k t t′ few b r new j (f j) lt (λ g. let z : ⊥ = omega arith in z) (u .todo j (omega arith) lt)
-              (b .off j lt)
-              (λ x v o. elim (came x o) [
-                | inl o′ ↦ b .two j k lt few (λ g. let z : ⊥ = omega arith in z) x v o′
-                | inr z ↦ b .fresh-tables (z .0) (let l = z .1 in omega arith) (let y = z .2 in omega arith) j lt (subst (Has pageOf h (f j)) (z .3) v)
-              ]);
+                (b .off j lt)
+                (λ x v o. elim (came x o) [
+                  | inl o′ ↦ b .two j k lt few (λ g. let z : ⊥ = omega arith in z) x v o′
+                  | inr z ↦ b .fresh-tables (z .0) (let l = z .1 in omega arith) (let y = z .2 in omega arith) j lt (subst (Has pageOf h (f j)) (z .3) v)
+                ]);
             frame = λ w a d. r .frame w (λ g. a (subst (λ (y : ℕ). Own (y / 512)) (sym g) here)) (λ y. d k (omega arith) (subst (λ (n : ℕ). Has pageOf h (mapped q page h (e + k * span h) n (f k)) (w / 512)) c y))
-              ∙ u .frame w a (λ j lt. d j (omega arith));
+                ∙ u .frame w a (λ j lt. d j (omega arith));
           }
 
       pub loop : (k : ℕ) → k ≤ m → Refines h → Table → Upto k (after k)
@@ -273,16 +273,16 @@ module _ (q : Mapping) (page pageOf : ℕ → ℕ) where
           let c = u .count in
           let w = wants-table h e d old o in
           let here : s′ .word i ≡ d = u .frame i (λ g. rd .off (inl g)) (λ j lt y.
-            let part = sum-part 512 (λ k. wants q h (e + k * span h) (old k)) j lt in
-            elim (has-mapped q page pageOf h (e + j * span h) _ (old j) (i / 512) y) [ inl g ↦ rd .off (inr (j, lt, g)) | inr z ↦ rd .fresh-here (z .0) (let l = z .1 in omega arith) (let m = z .2 in omega arith) (sym (z .3)) ]) in
+          let part = sum-part 512 (λ k. wants q h (e + k * span h) (old k)) j lt in
+          elim (has-mapped q page pageOf h (e + j * span h) _ (old j) (i / 512) y) [ inl g ↦ rd .off (inr (j, lt, g)) | inr z ↦ rd .fresh-here (z .0) (let l = z .1 in omega arith) (let m = z .2 in omega arith) (sym (z .3)) ]) in
           let to = mapped-table h e (s .handed) d old o in
           record {
             became = ap (leadsTo pageOf (s′ .word) (suc h)) here ∙ leads-table (s′ .word) h d t
-              ∙ ap (Leads d) (fun-ext (λ j. u .done (j % 512) (mod-lt j (lit< tt))))
-              ∙ sym to;
+                ∙ ap (Leads d) (fun-ext (λ j. u .done (j % 512) (mod-lt j (lit< tt))))
+                ∙ sym to;
             count = omega arith;
             frame = λ x a b. u .frame x (λ g. b (subst (λ (X : Entry). Has pageOf (suc h) X (x / 512)) (sym to) (inl g)))
-              (λ j lt y. b (subst (λ (X : Entry). Has pageOf (suc h) X (x / 512)) (sym to) (inr (j, lt, subst (λ (k : ℕ). Has pageOf h (grown k) (x / 512)) (sym (mod-eq-of-lt lt)) y))));
+                (λ j lt y. b (subst (λ (X : Entry). Has pageOf (suc h) X (x / 512)) (sym to) (inr (j, lt, subst (λ (k : ℕ). Has pageOf h (grown k) (x / 512)) (sym (mod-eq-of-lt lt)) y))));
           }
 
     -- ---- a fresh table
@@ -323,7 +323,7 @@ module _ (q : Mapping) (page pageOf : ℕ → ℕ) where
           let w = wants-fresh h e x o in
           record {
             entries = λ j lt. let p = in-page (free n) j lt in
-              cleared h (begun .word) (512 * free n + j) (put-there i (tableWord (page n)) (512 * free n + j) (hand (free n) s) (λ g. rd .fresh-here n (omega arith) (omega arith) (sym p ∙ ap (λ (y : ℕ). y / 512) g)) ∙ hand-here (free n) (512 * free n + j) s p);
+                cleared h (begun .word) (512 * free n + j) (put-there i (tableWord (page n)) (512 * free n + j) (hand (free n) s) (λ g. rd .fresh-here n (omega arith) (omega arith) (sym p ∙ ap (λ (y : ℕ). y / 512) g)) ∙ hand-here (free n) (512 * free n + j) s p);
             apart = λ j lt. nothing-apart h;
             own = λ j lt. in-page (free n) j lt;
             off = λ j lt x g. nothing-has h 0 x;
@@ -344,19 +344,19 @@ module _ (q : Mapping) (page pageOf : ℕ → ℕ) where
           let c = u .count in
           let w = wants-fresh h e x o in
           let here : s′ .word i ≡ tableWord (page n) =
-            u .frame i (λ g. rd .fresh-here n (omega arith) (omega arith) (sym g)) (λ j lt y.
-              let part = sum-part 512 (λ k. wants q h (e + k * span h) (blank k)) j lt in
-              elim (has-mapped q page pageOf h (e + j * span h) _ (blank j) (i / 512) y) [ inl g ↦ nothing-has h 0 (i / 512) g | inr z ↦ rd .fresh-here (z .0) (let l = z .1 in omega arith) (let m = z .2 in omega arith) (sym (z .3)) ])
-            ∙ put-here i (tableWord (page n)) (hand (free n) s) in
+          u .frame i (λ g. rd .fresh-here n (omega arith) (omega arith) (sym g)) (λ j lt y.
+          let part = sum-part 512 (λ k. wants q h (e + k * span h) (blank k)) j lt in
+          elim (has-mapped q page pageOf h (e + j * span h) _ (blank j) (i / 512) y) [ inl g ↦ nothing-has h 0 (i / 512) g | inr z ↦ rd .fresh-here (z .0) (let l = z .1 in omega arith) (let m = z .2 in omega arith) (sym (z .3)) ])
+          ∙ put-here i (tableWord (page n)) (hand (free n) s) in
           let to = mapped-fresh h e n x o in
           record {
             became = ap (leadsTo pageOf (s′ .word) (suc h)) here ∙ leads-table (s′ .word) h (tableWord (page n)) (named n (omega arith))
-              ∙ ap (Leads (tableWord (page n))) (fun-ext (λ j. u .done (j % 512) (mod-lt j (lit< tt))))
-              ∙ sym to;
+                ∙ ap (Leads (tableWord (page n))) (fun-ext (λ j. u .done (j % 512) (mod-lt j (lit< tt))))
+                ∙ sym to;
             count = omega arith;
             frame = λ y a b. let off : y / 512 ≢ free n = λ g. b (subst (λ (X : Entry). Has pageOf (suc h) X (y / 512)) (sym to) (inl g)) in
-              u .frame y off (λ j lt v. b (subst (λ (X : Entry). Has pageOf (suc h) X (y / 512)) (sym to) (inr (j, lt, subst (λ (k : ℕ). Has pageOf h (planted k) (y / 512)) (sym (mod-eq-of-lt lt)) v))))
-              ∙ put-there i (tableWord (page n)) y (hand (free n) s) a ∙ hand-there (free n) y s off;
+                u .frame y off (λ j lt v. b (subst (λ (X : Entry). Has pageOf (suc h) X (y / 512)) (sym to) (inr (j, lt, subst (λ (k : ℕ). Has pageOf h (planted k) (y / 512)) (sym (mod-eq-of-lt lt)) v))))
+                ∙ put-there i (tableWord (page n)) y (hand (free n) s) a ∙ hand-there (free n) y s off;
           }
 
     -- ---- every entry
@@ -365,13 +365,13 @@ module _ (q : Mapping) (page pageOf : ℕ → ℕ) where
     refines zero e i s E is rd room = subst (Refined 0 e i s (store q page pageOf 0 e i s)) is (page-refined e i s)
     refines (suc h) e i s E is rd room = elim (T-or-not (opens q (suc h) e)) [
       | inl o ↦ elim (T-or-not (isTable (s .word i))) [
-          | inl t ↦ by-tree (leads-table (s .word) h (s .word i) t) (λ r m. subst (λ (x : Stored). Refined (suc h) e i s x (Leads (s .word i) (old h e i s (refines h) o))) (sym (store-table h e i s o t)) (table-refined h e i s (refines h) o t r m))
-          | inr t ↦ by-tree (leads-ends (s .word) h (s .word i) t) (λ r m. subst (λ (x : Stored). Refined (suc h) e i s x (Ends (s .word i))) (sym (store-fresh h e i s o t)) (fresh-refined h e i s (refines h) o (s .word i) r m))
-        ]
+        | inl t ↦ by-tree (leads-table (s .word) h (s .word i) t) (λ r m. subst (λ (x : Stored). Refined (suc h) e i s x (Leads (s .word i) (old h e i s (refines h) o))) (sym (store-table h e i s o t)) (table-refined h e i s (refines h) o t r m))
+        | inr t ↦ by-tree (leads-ends (s .word) h (s .word i) t) (λ r m. subst (λ (x : Stored). Refined (suc h) e i s x (Ends (s .word i))) (sym (store-fresh h e i s o t)) (fresh-refined h e i s (refines h) o (s .word i) r m))
+      ]
       | inr o ↦ elim (T-or-not (meets q (suc h) e)) [
-          | inl m ↦ subst (Refined (suc h) e i s (store q page pageOf (suc h) e i s)) is (subst (λ (x : Stored). Refined (suc h) e i s x (tree (suc h) i s)) (sym (store-leaf h e i s o m)) (leaf-refined h e i s o m))
-          | inr m ↦ subst (Refined (suc h) e i s (store q page pageOf (suc h) e i s)) is (subst (λ (x : Stored). Refined (suc h) e i s x (tree (suc h) i s)) (sym (store-none h e i s o m)) (none-refined h e i s o m))
-        ]
+        | inl m ↦ subst (Refined (suc h) e i s (store q page pageOf (suc h) e i s)) is (subst (λ (x : Stored). Refined (suc h) e i s x (tree (suc h) i s)) (sym (store-leaf h e i s o m)) (leaf-refined h e i s o m))
+        | inr m ↦ subst (Refined (suc h) e i s (store q page pageOf (suc h) e i s)) is (subst (λ (x : Stored). Refined (suc h) e i s x (tree (suc h) i s)) (sym (store-none h e i s o m)) (none-refined h e i s o m))
+      ]
     ]
       where
         by-tree : {X : Entry} → tree (suc h) i s ≡ X → (Ready (suc h) i s X → s .handed + wants q (suc h) e X ≤ N → Refined (suc h) e i s (store q page pageOf (suc h) e i s) X) → Refined (suc h) e i s (store q page pageOf (suc h) e i s) E

@@ -22,11 +22,11 @@ module _ (w n : ℕ) (some : 0 < w) where
   once-by-windows [] all ok = tt
   once-by-windows (x ∷ l) all ok = (
     λ i. let k = x / w in
-      let few : k < n = div-lt-iff-lt-mul {k = w} {x = x} {y = n} some .1 (all x (inl refl)) in
-      let d = div-add-mod' x w in
-      let r = mod-lt x some in
-      let here : T (inWindow (k * w) w x) = and-i (leb (k * w) x) (ltb x (k * w + w)) (le→leb (k * w) x (omega arith)) (lt→ltb x (k * w + w) (omega arith)) in
-      rw (T-true (inWindow (k * w) w x) here) at (ok k few) .0 (in-part (k * w) w x l here i),
+        let few : k < n = div-lt-iff-lt-mul {k = w} {x = x} {y = n} some .1 (all x (inl refl)) in
+        let d = div-add-mod' x w in
+        let r = mod-lt x some in
+        let here : T (inWindow (k * w) w x) = and-i (leb (k * w) x) (ltb x (k * w + w)) (le→leb (k * w) x (omega arith)) (lt→ltb x (k * w + w) (omega arith)) in
+        rw (T-true (inWindow (k * w) w x) here) at (ok k few) .0 (in-part (k * w) w x l here i),
     once-by-windows l (λ p i. all p (inr i)) (λ k few. if (inWindow (k * w) w x) (λ m. Once m → Once (part (k * w) w l)) (λ _ o. o .1) (λ _ o. o) (ok k few)),
   )
 

@@ -29,7 +29,7 @@ store q page at zero e i s = cond (meets q 0 e) (put i (leafWord q 0 e) s) s
 store q page at (suc h) e i s =
     cond (opens q (suc h) e)
     (cond (isTable (s .word i))
-      (steps 512 (λ j. store q page at h (e + j * span h) (512 * at (s .word i) + j)) s)
-      (steps 512 (λ j. store q page at h (e + j * span h) (512 * at (tableWord (page (s .handed))) + j))
-        (put i (tableWord (page (s .handed))) (hand (at (tableWord (page (s .handed)))) s))))
+    (steps 512 (λ j. store q page at h (e + j * span h) (512 * at (s .word i) + j)) s)
+    (steps 512 (λ j. store q page at h (e + j * span h) (512 * at (tableWord (page (s .handed))) + j))
+    (put i (tableWord (page (s .handed))) (hand (at (tableWord (page (s .handed)))) s))))
     (cond (meets q (suc h) e) (put i (leafWord q (suc h) e) s) s)

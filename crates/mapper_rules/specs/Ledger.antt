@@ -83,9 +83,9 @@ fields =
     ∷ line 0x1000 level2 0x123 (at 0x1000 0x403ff7fd []) (to 0x40200123)
     ∷ line 0x1000 level2 0x123 (at 0x1000 0xffffffe007fd []) (to 0xffffffe00123)
     ∷ line 0x1000 level2 0x123 (at 0x1000 0x2403 (at 0x2000 0x9b54000000005997 []))
-        (0x5123 ∷ 5 ∷ 2 ∷ 1 ∷ 0 ∷ 1 ∷ 1 ∷ 0 ∷ 1 ∷ 2 ∷ 6 ∷ 19 ∷ [])
+    (0x5123 ∷ 5 ∷ 2 ∷ 1 ∷ 0 ∷ 1 ∷ 1 ∷ 0 ∷ 1 ∷ 2 ∷ 6 ∷ 19 ∷ [])
     ∷ line 0x1000 level2 0x123 (at 0x1000 0x2403 (at 0x2000 0x64a800000000566b []))
-        (0x5123 ∷ 10 ∷ 1 ∷ 2 ∷ 1 ∷ 0 ∷ 0 ∷ 1 ∷ 0 ∷ 1 ∷ 9 ∷ 12 ∷ [])
+    (0x5123 ∷ 10 ∷ 1 ∷ 2 ∷ 1 ∷ 0 ∷ 0 ∷ 1 ∷ 0 ∷ 1 ∷ 9 ∷ 12 ∷ [])
     ∷ []
 
 -- four levels, by the indices 1, 2, 3, 4 and by the last ones, cut off at a reserved or invalid word; inputs past the last; two and
