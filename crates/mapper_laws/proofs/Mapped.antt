@@ -11,18 +11,10 @@ use Rattle.mapper_rules.specs.Walk.{span, Translation, Fault, To, isTable, isBl
 use Rattle.laws.proofs.Lists.{if, and-l, and-r, and-i, not-and, T-no, T-or-not, T-true, T-false, neq}
 use Rattle.mapper_laws.specs.declared.Mapping.{Mapping}
 use Rattle.mapper_laws.specs.Tree.{Entry, Ends, Leads, walkEntry, some, sum}
-use Rattle.mapper_laws.specs.Mapping.{inRange, outputOf, asked, meets, fits, opens, leafWord, tableWord, wants, blocked, mapped}
+use Rattle.mapper_laws.specs.Mapping.{Sane, inRange, outputOf, asked, meets, fits, opens, leafWord, tableWord, wants, blocked, mapped}
 use Rattle.mapper_laws.proofs.Tests.{not-or-l, not-or-r, not-not}
 use Rattle.mapper_laws.proofs.Leaves.{Serves, leaf-asked}
 use Rattle.mapper_laws.proofs.Spans.{Index, index-of, begins-below, span-pos}
-
--- a range of whole pages whose outputs are in memory
-pub record Sane (q : Mapping) : Type 0 where
-  pub from-page : q .from % 4096 ≡ 0
-  pub past-page : q .past % 4096 ≡ 0
-  pub out-page : q .out % 4096 ≡ 0
-  pub in-memory : q .out + (q .past - q .from) ≤ 2 ^ 48
-  pub two-bits : q .permission < 4
 
 multiple : (n m : ℕ) → n % m ≡ 0 → n / m * m ≡ n
 multiple n m e = let d = div-add-mod' n m in omega arith

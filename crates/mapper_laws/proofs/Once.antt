@@ -10,20 +10,20 @@ use Rattle.laws.proofs.Lists.{T-or-not, neq}
 use Rattle.mapper_laws.specs.Tree.{Entry, Ends, Leads, joined, tables, In, Once}
 use Rattle.mapper_laws.proofs.Apart.{Has, Apart}
 
-in-l : (p : ℕ) (a b : List ℕ) → In p a → In p (a ++ b)
+pub in-l : (p : ℕ) (a b : List ℕ) → In p a → In p (a ++ b)
 in-l p (x ∷ a) b (inl e) = inl e
 in-l p (x ∷ a) b (inr i) = inr (in-l p a b i)
 
-in-r : (p : ℕ) (a b : List ℕ) → In p b → In p (a ++ b)
+pub in-r : (p : ℕ) (a b : List ℕ) → In p b → In p (a ++ b)
 in-r p [] b i = i
 in-r p (x ∷ a) b i = inr (in-r p a b i)
 
-record Parts (a b : List ℕ) : Type 0 where
-  first : Once a
-  second : Once b
-  none : (p : ℕ) → In p a → In p b → ⊥
+pub record Parts (a b : List ℕ) : Type 0 where
+  pub first : Once a
+  pub second : Once b
+  pub none : (p : ℕ) → In p a → In p b → ⊥
 
-parts : (a b : List ℕ) → Once (a ++ b) → Parts a b
+pub parts : (a b : List ℕ) → Once (a ++ b) → Parts a b
 unfolding Once
 parts [] b o = record { first = tt; second = o; none = λ p i j. i }
 parts (x ∷ a) b o = let r = parts a b (o .1) in record {
@@ -32,7 +32,7 @@ parts (x ∷ a) b o = let r = parts a b (o .1) in record {
   none = λ p i j. elim i [ inl e ↦ o .0 (in-r x a b (subst (λ (y : ℕ). In y b) e j)) | inr k ↦ r .none p k j ];
 }
 
-in-joined : (n : ℕ) (f : ℕ → List ℕ) (j p : ℕ) → j < n → In p (f j) → In p (joined n f)
+pub in-joined : (n : ℕ) (f : ℕ → List ℕ) (j p : ℕ) → j < n → In p (f j) → In p (joined n f)
 unfolding joined
 in-joined zero f j p h i = absurd (let z : ⊥ = omega arith in z)
 in-joined (suc n) f j p h i = elim (T-or-not (eqb j n)) [
@@ -40,7 +40,7 @@ in-joined (suc n) f j p h i = elim (T-or-not (eqb j n)) [
   | inr e ↦ let d = neq j n e in in-l p (joined n f) (f n) (in-joined n f j p (omega arith) i)
 ]
 
-once-of : (n : ℕ) (f : ℕ → List ℕ) (j : ℕ) → j < n → Once (joined n f) → Once (f j)
+pub once-of : (n : ℕ) (f : ℕ → List ℕ) (j : ℕ) → j < n → Once (joined n f) → Once (f j)
 unfolding joined
 once-of zero f j h o = absurd (let z : ⊥ = omega arith in z)
 once-of (suc n) f j h o = elim (T-or-not (eqb j n)) [
@@ -48,7 +48,7 @@ once-of (suc n) f j h o = elim (T-or-not (eqb j n)) [
   | inr e ↦ let d = neq j n e in once-of n f j (omega arith) (parts (joined n f) (f n) o .first)
 ]
 
-two-of : (n : ℕ) (f : ℕ → List ℕ) (i j p : ℕ) → i < n → j < n → i ≢ j → Once (joined n f) → In p (f i) → In p (f j) → ⊥
+pub two-of : (n : ℕ) (f : ℕ → List ℕ) (i j p : ℕ) → i < n → j < n → i ≢ j → Once (joined n f) → In p (f i) → In p (f j) → ⊥
 unfolding joined
 two-of zero f i j p hi hj d o x y = let z : ⊥ = omega arith in z
 two-of (suc n) f i j p hi hj d o x y = elim (T-or-not (eqb i n)) [

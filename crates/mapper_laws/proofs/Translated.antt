@@ -11,18 +11,14 @@ use lib.Dec.{T, leb, ltb, eqb, eqb→eq, lit<, lit≤, leb→le, eqb·suc-zero}
 use Rattle.mapper_rules.specs.Walk.{bits, span, Translation, Fault, isTable, isBlock, tableAt, leaf, walkFrom}
 use Rattle.laws.proofs.Lists.{if, and-l, and-r, not-and, T-no, T-or-not, T-true, T-false}
 use Rattle.mapper_laws.specs.declared.Mapping.{Mapping}
-use Rattle.mapper_laws.specs.Tree.{Entry, Ends, Leads, table, pageOf, walkEntry, leadsTo}
-use Rattle.mapper_laws.specs.Mapping.{inRange, outputOf, asked, meets, fits, opens, leafWord, tableWord, wants, blocked, mapped}
+use Rattle.mapper_laws.specs.Tree.{Entry, Ends, Leads, table, memory, pageOf, walkEntry, leadsTo}
+use Rattle.mapper_laws.specs.Mapping.{Sane, inRange, outputOf, asked, meets, fits, opens, leafWord, tableWord, wants, blocked, mapped}
 use Rattle.mapper_laws.specs.Stores.{Stored, steps, store}
 use Rattle.mapper_laws.proofs.Tests.{not-not}
 use Rattle.mapper_laws.proofs.Spans.{span-pos, span-suc}
-use Rattle.mapper_laws.proofs.Mapped.{Sane, mapped-walk}
+use Rattle.mapper_laws.proofs.Mapped.{mapped-walk}
 use Rattle.mapper_laws.proofs.Handed.{slot}
 use Rattle.mapper_laws.proofs.Refines.{tree, Table, Upto, after, loop, refines}
-
--- the word at an address
-abbrev pub memory : (ℕ → ℕ) → ℕ → ℕ
-memory word a = word (a / 8)
 
 word-of : (p j : ℕ) → (p * 4096 + 8 * j) / 8 ≡ 512 * p + j
 word-of p j = ap (λ (y : ℕ). y / 8) (let e : p * 4096 + 8 * j ≡ (512 * p + j) * 8 = omega arith in e) ∙ mul-div-cancel (512 * p + j) (lit< tt)

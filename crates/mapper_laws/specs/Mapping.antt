@@ -1,6 +1,7 @@
 -- What a mapping makes of an entry and all that it leads to. Assumes nothing.
 use mathlib.Core.Bool.{Bool, false, cond, _&&_, not}
-use Prim.Native.Nat.{ℕ, zero, suc, _+_, _-_, _*_, _%_}
+use mathlib.Core.Path.{_≡_}
+use Prim.Native.Nat.{ℕ, zero, suc, _+_, _-_, _*_, _%_, _^_, _≤_, _<_}
 use lib.Dec.{leb, ltb, eqb}
 use Rattle.mapper_rules.specs.Walk.{span, Attributes, Translation, To, isBlock}
 use Rattle.mapper_laws.specs.declared.Mapping.{Mapping}
@@ -9,6 +10,14 @@ use Rattle.mapper_laws.specs.Tree.{Entry, Ends, Leads, table, sum, some}
 -- S2AP: bit 1 for writable, bit 0 for readable
 unfoldable pub permissionOf : Bool → Bool → ℕ
 permissionOf readable writable = cond writable 2 0 + cond readable 1 0
+
+-- whole pages, whose outputs lie below 2 ^ 48, and a permission of two bits
+pub record Sane (q : Mapping) : Type 0 where
+  pub from-page : q .from % 4096 ≡ 0
+  pub past-page : q .past % 4096 ≡ 0
+  pub out-page : q .out % 4096 ≡ 0
+  pub in-memory : q .out + (q .past - q .from) ≤ 2 ^ 48
+  pub two-bits : q .permission < 4
 
 abbrev pub inRange : Mapping → ℕ → Bool
 inRange q x = leb (q .from) x && ltb x (q .past)

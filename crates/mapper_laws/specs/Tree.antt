@@ -6,6 +6,10 @@ use mathlib.Core.List.{List, [], _∷_, _++_}
 use Prim.Native.Nat.{ℕ, zero, suc, _+_, _*_, _/_, _%_}
 use Rattle.mapper_rules.specs.Walk.{bits, span, Translation, Fault, isTable, isBlock, leaf}
 
+-- the word at an address
+abbrev pub memory : (ℕ → ℕ) → ℕ → ℕ
+memory word a = word (a / 8)
+
 -- a descriptor that leads no further, or one that leads to a table, with that table's 512 entries
 pub data Entry : Type 0 where
   Ends : ℕ → Entry
