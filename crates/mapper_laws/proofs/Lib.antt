@@ -12,3 +12,5 @@ pub mod Once
 pub mod Determined
 pub mod Arena
 pub mod Windows
+pub mod Registers
+pub mod Maps
