@@ -7,18 +7,19 @@ use Prim.Native.Nat.{ℕ, zero, suc, _+_, _-_, _*_, _/_, _%_, _^_, _≤_, _<_}
 use native.Mathlib.Omega.{arith}
 use native.Mathlib.Nat.{mod-eq-of-lt, div-add-mod', div-lt-iff-lt-mul, add-mul-div-left, zero-add, le-refl, mod-lt}
 use lib.Arith.{digits-div}
-use lib.Dec.{T, leb, ltb, eqb, leb→le, ltb→lt, nltb→le, eqb→eq, lit<}
-use Rattle.laws.proofs.Lists.{and-l, and-r, T-or-not, T-true, T-false, neq}
+use lib.Dec.{T, leb, ltb, eqb, leb→le, ltb→lt, nltb→le, le→leb, lt→ltb, eqb→eq, lit<}
+use Rattle.laws.proofs.Lists.{and-i, and-l, and-r, T-or-not, T-no, T-true, T-false, neq}
 use Rattle.mapper_rules.specs.Walk.{span, isTable, Translation, Fault, walkFrom, walk, inputTop, topHeight, topTable}
 use Rattle.mapper_rules.specs.Numbers.{topEntries, topBytes}
 use Rattle.mapper_laws.specs.declared.Mapping.{Mapping}
 use Rattle.mapper_laws.specs.Tree.{Entry, memory, pageOf, leadsTo, joined, sum, some, tables, In, Once}
-use Rattle.mapper_laws.specs.Mapping.{inRange, asked, tableWord, wants, blocked}
+use Rattle.mapper_laws.specs.Mapping.{inRange, asked, tableWord, wants, blocked, mapped}
 use Rattle.mapper_laws.specs.Stores.{Stored, steps, store}
-use Rattle.mapper_laws.specs.Promise.{entryAt, topPages, reached, wanted, inTheWay, after, Fit, Maps}
+use Rattle.mapper_laws.specs.Promise.{entryAt, topPages, tablesBelow, Outside, before, wanted, inTheWay, after, Fit, Maps}
 use Rattle.mapper_laws.proofs.Tests.{not-or-l, not-or-r}
 use Rattle.mapper_laws.proofs.Apart.{Has}
-use Rattle.mapper_laws.proofs.Once.{in-l, in-r, Parts, parts, in-joined, once-of, two-of, has-in, once-apart}
+use Rattle.mapper_laws.proofs.Once.{in-l, in-r, Parts, parts, in-joined, once-of, two-of, of-joined, joined-same, in-or-not, has-in, in-has, once-apart}
+use Rattle.mapper_laws.proofs.Determined.{rawOf, raw-leads, determined}
 use Rattle.mapper_laws.proofs.Handed.{slot}
 use Rattle.mapper_laws.proofs.Refines.{tree, Table, Upto, loop, refines}
 use Rattle.mapper_laws.proofs.Translated.{Pages, named, leaf-ends, walkTop, translated}
@@ -73,7 +74,7 @@ module _ (q : Mapping) (word : ℕ → ℕ) (vttbr vtcr : ℕ) (page : ℕ → �
   fresh = joined N (λ k. (page k / 4096) ∷ [])
 
   outer : Parts (tops ++ below) fresh
-  unfolding reached
+  unfolding tablesBelow
   outer = parts (tops ++ below) fresh (fit .once)
 
   inner : Parts tops below
@@ -115,9 +116,12 @@ module _ (q : Mapping) (word : ℕ → ℕ) (vttbr vtcr : ℕ) (page : ℕ → �
       in-joined (topBytes vtcr / 4096) (λ k. (topTable vttbr / 4096 + k) ∷ []) (j / 512) ((first + j) / 512) few (inl is)
 
   -- sums over the entries, which begin at 0 + j * span H
+  counted : (n : ℕ) → sum n (λ j. wants q H (0 + j * span H) (f j)) ≡ before q word vttbr vtcr n
+  counted n = ap (sum n) (fun-ext (λ j. ap (λ (e : ℕ). wants q H e (f j)) (zero-add (j * span H))))
+
   wanted-is : sum m (λ j. wants q H (0 + j * span H) (f j)) ≡ N
   unfolding wanted
-  wanted-is = ap (sum m) (fun-ext (λ j. ap (λ (e : ℕ). wants q H e (f j)) (zero-add (j * span H))))
+  wanted-is = counted m
 
   after-is : steps m (λ j. store q page pageOf H (0 + j * span H) (first + j)) start ≡ after q word vttbr vtcr page
   unfolding after
@@ -172,19 +176,58 @@ module _ (q : Mapping) (word : ℕ → ℕ) (vttbr vtcr : ℕ) (page : ℕ → �
   abbrev leads : ℕ → Entry
   leads j = entryAt (stored .word) vttbr vtcr j
 
-  abbrev now : List ℕ
-  now = joined m (λ j. tables pageOf H (leads j))
+  kept : (w : ℕ) → Outside (stored .word) vttbr vtcr w → stored .word w ≡ word w
+  unfolding tablesBelow
+  kept w out = all .exact w (out .no-entry) (λ j l g. out .no-table (in-joined m (λ j. tables pageOf H (leads j)) j (w / 512) l
+      (has-in pageOf H (leads j) (w / 512) (subst (λ (E : Entry). Has pageOf H E (w / 512)) (sym (all .done j l)) g))))
 
-  kept : (w : ℕ) → (In (w / 512) (reached (stored .word) vttbr vtcr) → ⊥) → stored .word w ≡ word w
-  unfolding reached
-  kept w none = all .frame w
-      (λ o. none (in-l (w / 512) tops now o))
-      (λ j l g. none (in-r (w / 512) tops now (in-joined m (λ j. tables pageOf H (leads j)) j (w / 512) l
-        (has-in pageOf H (leads j) (w / 512) (subst (λ (E : Entry). Has pageOf H E (w / 512)) (sym (all .done j l)) g)))))
+  made : (j : ℕ) → j < m → leads j ≡ mapped q page H (j * span H) (before q word vttbr vtcr j) (f j)
+  made j l =
+      all .done j l
+      ∙ ap (λ (e : ℕ). mapped q page H e (0 + sum j (λ i. wants q H (0 + i * span H) (f i))) (f j)) (zero-add (j * span H))
+      ∙ ap (λ (n : ℕ). mapped q page H (j * span H) n (f j)) (zero-add (sum j (λ i. wants q H (0 + i * span H) (f i))) ∙ counted j)
+
+  -- ---- no other words
+
+  module _ (v : ℕ → ℕ) (same : (j : ℕ) → j < m → entryAt v vttbr vtcr j ≡ leads j) (frame : (w : ℕ) → Outside v vttbr vtcr w → v w ≡ word w) where
+    same-below : tablesBelow v vttbr vtcr ≡ tablesBelow (stored .word) vttbr vtcr
+    unfolding tablesBelow
+    same-below = joined-same m (λ j. tables pageOf H (entryAt v vttbr vtcr j)) (λ j. tables pageOf H (leads j)) (λ j l. ap (tables pageOf H) (same j l))
+
+    entry-word : (j : ℕ) → j < m → v (first + j) ≡ stored .word (first + j)
+    entry-word j l =
+        sym (raw-leads pageOf v H (v (first + j))) ∙ ap rawOf (same j l) ∙ raw-leads pageOf (stored .word) H (stored .word (first + j))
+
+    table-word : (w : ℕ) → In (w / 512) (tablesBelow v vttbr vtcr) → v w ≡ stored .word w
+    unfolding tablesBelow
+    table-word w i =
+        let at = of-joined m (λ j. tables pageOf H (entryAt v vttbr vtcr j)) (w / 512) i in
+        let j = at .0 in
+        determined pageOf v (stored .word) H (v (first + j)) (stored .word (first + j)) (same j (at .1)) w (in-has pageOf H (entryAt v vttbr vtcr j) (w / 512) (at .2))
+
+    no-other : (w : ℕ) → v w ≡ stored .word w
+    no-other w = elim (T-or-not (leb first w && ltb w (first + m))) [
+      | inl t ↦
+          let l = leb→le first w (and-l (leb first w) (ltb w (first + m)) t) in
+          let r = ltb→lt w (first + m) (and-r (leb first w) (ltb w (first + m)) t) in
+          let at : first + (w - first) ≡ w = omega arith in
+          subst (λ (y : ℕ). v y ≡ stored .word y) at (entry-word (w - first) (omega arith))
+      | inr t ↦ elim (in-or-not (w / 512) (tablesBelow v vttbr vtcr)) [
+          | inl i ↦ table-word w i
+          | inr n ↦
+              let none : (j : ℕ) → j < m → w ≢ first + j = λ j l e. T-no (leb first w && ltb w (first + m)) t
+                  (and-i (leb first w) (ltb w (first + m)) (le→leb first w (omega arith)) (lt→ltb w (first + m) (omega arith))) in
+              frame w (record { no-entry = none; no-table = n })
+              ∙ sym (kept w (record { no-entry = none; no-table = λ i. n (subst (In (w / 512)) (sym same-below) i) }))
+        ]
+    ]
 
   pub maps : Maps q word vttbr vtcr page
   maps = record {
     translated = λ x. subst (λ (t : Stored). walk (memory (t .word)) vttbr vtcr x ≡ cond (inRange q x) (asked q x) (walk (memory word) vttbr vtcr x)) after-is (walked x);
-    frame = subst (λ (t : Stored). (w : ℕ) → (In (w / 512) (reached (t .word) vttbr vtcr) → ⊥) → t .word w ≡ word w) after-is kept;
+    tree = λ j l. subst (λ (t : Stored). entryAt (t .word) vttbr vtcr j ≡ mapped q page H (j * span H) (before q word vttbr vtcr j) (f j)) after-is (made j l);
+    frame = subst (λ (t : Stored). (w : ℕ) → Outside (t .word) vttbr vtcr w → t .word w ≡ word w) after-is kept;
     handed = subst (λ (t : Stored). t .handed ≡ N) after-is (all .count ∙ zero-add (sum m (λ j. wants q H (0 + j * span H) (f j))) ∙ wanted-is);
+    determined = subst (λ (t : Stored). (v : ℕ → ℕ) → ((j : ℕ) → j < m → entryAt v vttbr vtcr j ≡ entryAt (t .word) vttbr vtcr j)
+        → ((w : ℕ) → Outside v vttbr vtcr w → v w ≡ word w) → (w : ℕ) → v w ≡ t .word w) after-is no-other;
   }

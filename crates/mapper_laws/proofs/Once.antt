@@ -18,6 +18,18 @@ pub in-r : (p : ℕ) (a b : List ℕ) → In p b → In p (a ++ b)
 in-r p [] b i = i
 in-r p (x ∷ a) b i = inr (in-r p a b i)
 
+in-either : (p : ℕ) (a b : List ℕ) → In p (a ++ b) → In p a ⊎ In p b
+in-either p [] b i = inr i
+in-either p (x ∷ a) b (inl e) = inl (inl e)
+in-either p (x ∷ a) b (inr i) = elim (in-either p a b i) [ inl l ↦ inl (inr l) | inr r ↦ inr r ]
+
+pub in-or-not : (p : ℕ) (l : List ℕ) → In p l ⊎ (In p l → ⊥)
+in-or-not p [] = inr (λ i. i)
+in-or-not p (x ∷ l) = elim (T-or-not (eqb p x)) [
+  | inl e ↦ inl (inl (eqb→eq p x e))
+  | inr e ↦ elim (in-or-not p l) [ inl i ↦ inl (inr i) | inr n ↦ inr (λ i. elim i [ inl g ↦ neq p x e g | inr j ↦ n j ]) ]
+]
+
 pub record Parts (a b : List ℕ) : Type 0 where
   pub first : Once a
   pub second : Once b
@@ -39,6 +51,19 @@ in-joined (suc n) f j p h i = elim (T-or-not (eqb j n)) [
   | inl e ↦ in-r p (joined n f) (f n) (subst (λ (k : ℕ). In p (f k)) (eqb→eq j n e) i)
   | inr e ↦ let d = neq j n e in in-l p (joined n f) (f n) (in-joined n f j p (omega arith) i)
 ]
+
+pub of-joined : (n : ℕ) (f : ℕ → List ℕ) (p : ℕ) → In p (joined n f) → (j : ℕ) × (j < n) × In p (f j)
+unfolding joined
+of-joined zero f p i = absurd i
+of-joined (suc n) f p i = elim (in-either p (joined n f) (f n) i) [
+  | inl l ↦ let at = of-joined n f p l in (at .0, (let h = at .1 in omega arith), at .2)
+  | inr r ↦ (n, omega arith, r)
+]
+
+pub joined-same : (n : ℕ) (f g : ℕ → List ℕ) → ((j : ℕ) → j < n → f j ≡ g j) → joined n f ≡ joined n g
+unfolding joined
+joined-same zero f g e = refl
+joined-same (suc n) f g e = ap (λ (l : List ℕ). l ++ f n) (joined-same n f g (λ j h. e j (omega arith))) ∙ ap (λ (l : List ℕ). joined n g ++ l) (e n (omega arith))
 
 pub once-of : (n : ℕ) (f : ℕ → List ℕ) (j : ℕ) → j < n → Once (joined n f) → Once (f j)
 unfolding joined
@@ -66,6 +91,13 @@ module _ (pageOf : ℕ → ℕ) where
   has-in (suc h) (Ends d) p g = g
   has-in (suc h) (Leads d f) p (inl e) = inl e
   has-in (suc h) (Leads d f) p (inr (j, lt, g)) = inr (in-joined 512 (λ k. tables pageOf h (f k)) j p lt (has-in h (f j) p g))
+
+  pub in-has : (h : ℕ) (E : Entry) (p : ℕ) → In p (tables pageOf h E) → Has pageOf h E p
+  unfolding Has tables
+  in-has zero E p i = i
+  in-has (suc h) (Ends d) p i = i
+  in-has (suc h) (Leads d f) p (inl e) = inl e
+  in-has (suc h) (Leads d f) p (inr i) = let at = of-joined 512 (λ k. tables pageOf h (f k)) p i in inr (at .0, at .1, in-has h (f (at .0)) p (at .2))
 
   pub once-apart : (h : ℕ) (E : Entry) → Once (tables pageOf h E) → Apart pageOf h E
   unfolding Apart tables Once

@@ -167,9 +167,10 @@ module _ (q : Mapping) (page pageOf : ℕ → ℕ) where
         pub done : (j : ℕ) → j < k → tree h (first + j) t ≡ mapped q page h (e + j * span h) (s .handed + sum j wanted) (f j)
         pub todo : (j : ℕ) → k ≤ j → j < m → tree h (first + j) t ≡ f j
         pub frame : (w : ℕ) → (Own (w / 512) → ⊥) → ((j : ℕ) → j < k → Has pageOf h (made j) (w / 512) → ⊥) → t .word w ≡ s .word w
+        pub exact : (w : ℕ) → ((j : ℕ) → j < k → w ≢ first + j) → ((j : ℕ) → j < k → Has pageOf h (made j) (w / 512) → ⊥) → t .word w ≡ s .word w
 
       start : Table → Upto 0 s
-      start b = record { count = let z = sum-none wanted in omega arith; done = λ j l. absurd (omega arith); todo = λ j l r. b .entries j r; frame = λ w a d. refl }
+      start b = record { count = let z = sum-none wanted in omega arith; done = λ j l. absurd (omega arith); todo = λ j l r. b .entries j r; frame = λ w a d. refl; exact = λ w a d. refl }
 
       -- an entry other than the k-th, which leads to X, when the k-th is stored
       kept : (k : ℕ) (t t′ : Stored) → k < m → Table → Refined h (e + k * span h) (first + k) t t′ (f k) → ((x : ℕ) → Own x → Has pageOf h (mapped q page h (e + k * span h) (t .handed) (f k)) x → ⊥)
@@ -204,6 +205,8 @@ module _ (q : Mapping) (page pageOf : ℕ → ℕ) where
             | inl v ↦ b .off k few x o v
             | inr z ↦ b .fresh-here (z .0) (let l = z .1 in omega arith) (let r = z .2 in omega arith) (subst Own (z .3) o)
           ] in
+          let there : (w : ℕ) → Has pageOf h (mapped q page h (e + k * span h) (t .handed) (f k)) (w / 512) → Has pageOf h (made k) (w / 512) =
+              λ w. subst (λ (n : ℕ). Has pageOf h (mapped q page h (e + k * span h) n (f k)) (w / 512)) c in
           record {
             count = omega arith;
             done = λ j lt. elim (T-or-not (eqb j k)) [
@@ -231,8 +234,8 @@ module _ (q : Mapping) (page pageOf : ℕ → ℕ) where
                   | inl o′ ↦ b .two j k lt few (λ g. let z : ⊥ = omega arith in z) x v o′
                   | inr z ↦ b .fresh-tables (z .0) (let l = z .1 in omega arith) (let y = z .2 in omega arith) j lt (subst (Has pageOf h (f j)) (z .3) v)
                 ]);
-            frame = λ w a d. r .frame w (λ g. a (subst (λ (y : ℕ). Own (y / 512)) (sym g) here)) (λ y. d k (omega arith) (subst (λ (n : ℕ). Has pageOf h (mapped q page h (e + k * span h) n (f k)) (w / 512)) c y))
-                ∙ u .frame w a (λ j lt. d j (omega arith));
+            frame = λ w a d. r .frame w (λ g. a (subst (λ (y : ℕ). Own (y / 512)) (sym g) here)) (λ y. d k (omega arith) (there w y)) ∙ u .frame w a (λ j lt. d j (omega arith));
+            exact = λ w a d. r .frame w (a k (omega arith)) (λ y. d k (omega arith) (there w y)) ∙ u .exact w (λ j lt. a j (omega arith)) (λ j lt. d j (omega arith));
           }
 
       pub loop : (k : ℕ) → k ≤ m → Refines h → Table → Upto k (after k)
