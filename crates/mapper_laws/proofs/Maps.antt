@@ -213,13 +213,13 @@ module _ (q : Mapping) (word : ℕ → ℕ) (vttbr vtcr : ℕ) (page : ℕ → �
           let at : first + (w - first) ≡ w = omega arith in
           subst (λ (y : ℕ). v y ≡ stored .word y) at (entry-word (w - first) (omega arith))
       | inr t ↦ elim (in-or-not (w / 512) (tablesBelow v vttbr vtcr)) [
-          | inl i ↦ table-word w i
-          | inr n ↦
-              let none : (j : ℕ) → j < m → w ≢ first + j = λ j l e. T-no (leb first w && ltb w (first + m)) t
-                  (and-i (leb first w) (ltb w (first + m)) (le→leb first w (omega arith)) (lt→ltb w (first + m) (omega arith))) in
-              frame w (record { no-entry = none; no-table = n })
-              ∙ sym (kept w (record { no-entry = none; no-table = λ i. n (subst (In (w / 512)) (sym same-below) i) }))
-        ]
+        | inl i ↦ table-word w i
+        | inr n ↦
+            let none : (j : ℕ) → j < m → w ≢ first + j = λ j l e. T-no (leb first w && ltb w (first + m)) t
+            (and-i (leb first w) (ltb w (first + m)) (le→leb first w (omega arith)) (lt→ltb w (first + m) (omega arith))) in
+            frame w (record { no-entry = none; no-table = n })
+            ∙ sym (kept w (record { no-entry = none; no-table = λ i. n (subst (In (w / 512)) (sym same-below) i) }))
+      ]
     ]
 
   pub maps : Maps q word vttbr vtcr page

@@ -206,7 +206,7 @@ module _ (q : Mapping) (page pageOf : ℕ → ℕ) where
             | inr z ↦ b .fresh-here (z .0) (let l = z .1 in omega arith) (let r = z .2 in omega arith) (subst Own (z .3) o)
           ] in
           let there : (w : ℕ) → Has pageOf h (mapped q page h (e + k * span h) (t .handed) (f k)) (w / 512) → Has pageOf h (made k) (w / 512) =
-              λ w. subst (λ (n : ℕ). Has pageOf h (mapped q page h (e + k * span h) n (f k)) (w / 512)) c in
+          λ w. subst (λ (n : ℕ). Has pageOf h (mapped q page h (e + k * span h) n (f k)) (w / 512)) c in
           record {
             count = omega arith;
             done = λ j lt. elim (T-or-not (eqb j k)) [

@@ -71,4 +71,4 @@ module _ (q : Mapping) (word : ℕ → ℕ) (vttbr vtcr : ℕ) where
       pub frame : (w : ℕ) → Outside (after .word) vttbr vtcr w → after .word w ≡ word w
       pub handed : after .handed ≡ wanted
       pub determined : (v : ℕ → ℕ) → ((j : ℕ) → j < topEntries vtcr → entryAt v vttbr vtcr j ≡ entryAt (after .word) vttbr vtcr j)
-        → ((w : ℕ) → Outside v vttbr vtcr w → v w ≡ word w) → (w : ℕ) → v w ≡ after .word w
+          → ((w : ℕ) → Outside v vttbr vtcr w → v w ≡ word w) → (w : ℕ) → v w ≡ after .word w

@@ -1,17 +1,16 @@
 -- The last input, and the top table's size with every T0SZ and every SL0. Assumes nothing.
 use mathlib.Core.Path.{_≡_, refl, sym, _∙_, ap}
-use mathlib.Core.Logic.{inl, inr, _≢_}
-use mathlib.Core.Bool.{Bool, true, cond, _&&_}
+use mathlib.Core.Bool.{cond}
 use Prim.Native.Nat.{ℕ, zero, suc, _+_, _-_, _*_, _/_, _%_, _^_, _≤_, _<_}
 use native.Mathlib.Omega.{arith}
-use native.Mathlib.Nat.{mod-lt}
 use lib.Arith.{digits-div}
 use lib.Pow.{pow-add}
 use lib.Dec.{T, ltb, eqb, eqb→eq, nltb→le, lit<}
 use borrow.Author.Tests.{lt-ltb, le-ltb}
 use Rattle.align.proofs.Rounding.{power-pos, shift-is}
-use Rattle.laws.proofs.Lists.{if, and-l, and-r, T-or-not, neq}
-use Rattle.mapper_rules.specs.Walk.{span}
+use Rattle.laws.proofs.Lists.{if}
+use Rattle.mapper_laws.proofs.Registers.{every, of-fields, entries, sized}
+use Rattle.mapper_rules.specs.Walk.{span, sl0, t0sz}
 use Rattle.mapper_rules.specs.Numbers.{topBytes}
 
 pub last-is : (t : ℕ) → t < 64 → 18446744073709551615 / 2 ^ t ≡ 2 ^ (64 - t) - 1
@@ -28,28 +27,9 @@ last-is t h =
     let e : 18446744073709551615 ≡ k * m + (m - 1) = let w : k * m + m ≡ 18446744073709551616 = sym split ∙ ap (λ (y : ℕ). y * m) s ∙ sym whole in omega arith in
     ap (λ (y : ℕ). y / m) e ∙ digits-div k (let z : m - 1 < m = omega arith in z)
 
--- the test holds of all numbers below n
-unfoldable pub every : ℕ → (ℕ → Bool) → Bool
-every zero f = true
-every (suc n) f = f n && every n f
-
-pub of-every : (n : ℕ) (f : ℕ → Bool) → T (every n f) → (j : ℕ) → j < n → T (f j)
-unfolding every
-of-every zero f t j h = absurd (let z : ⊥ = omega arith in z)
-of-every (suc n) f t j h = elim (T-or-not (eqb j n)) [
-  | inl e ↦ rw (eqb→eq j n e) (and-l (f n) (every n f) t)
-  | inr e ↦ let d = neq j n e in of-every n f (and-r (f n) (every n f) t) j (omega arith)
-]
-
--- the size by the code, and by the inputs
+-- the size by the code
 abbrev pub shifted : ℕ → ℕ → ℕ
 shifted sl t = cond (ltb (t + 9 * sl) 34) (2 ^ (46 - (t + 9 * sl))) 4096
-
-abbrev entries : ℕ → ℕ → ℕ
-entries sl t = 2 ^ (64 - t) / span (suc sl)
-
-abbrev sized : ℕ → ℕ → ℕ
-sized sl t = cond (ltb (8 * entries sl t) 4096) 4096 (8 * entries sl t)
 
 all : T (every 4 (λ sl. every 64 (λ t. eqb (shifted sl t) (sized sl t))))
 unfolding every span
@@ -58,11 +38,7 @@ all = tt
 pub shifted-size : (vtcr : ℕ) → shifted (vtcr / 64 % 4) (vtcr % 64) ≡ topBytes vtcr
 unfolding topBytes
 shifted-size vtcr =
-    let sl = vtcr / 64 % 4 in
-    let t = vtcr % 64 in
-    let l : sl < 4 = mod-lt (vtcr / 64) (lit< tt) in
-    let r : t < 64 = mod-lt vtcr (lit< tt) in
-    eqb→eq (shifted sl t) (sized sl t) (of-every 64 (λ t. eqb (shifted sl t) (sized sl t)) (of-every 4 (λ sl. every 64 (λ t. eqb (shifted sl t) (sized sl t))) all sl l) t r)
+    eqb→eq (shifted (sl0 vtcr) (t0sz vtcr)) (sized (sl0 vtcr) (t0sz vtcr)) (of-fields (λ sl t. eqb (shifted sl t) (sized sl t)) all vtcr)
 
 -- the size by a shift, and where there is none
 pub by-shift : (vtcr less : ℕ) → less ≡ vtcr % 64 + 9 * (vtcr / 64 % 4) → less < 34 → (1 * 2 ^ (46 - less)) % 18446744073709551616 ≡ topBytes vtcr

@@ -1,10 +1,11 @@
--- Every T0SZ from 0 to 63 at every level: which are allowed, and the bytes of the top table with each. Assumes nothing.
+-- Every T0SZ from 0 to 63 at every level: which are allowed, and the bytes of the top table with each; and the cases of numbers. Assumes nothing.
 use mathlib.Core.Path.{_≡_, refl}
 use mathlib.Core.Bool.{cond}
 use mathlib.Core.List.{List, [], _∷_, _++_, map}
 use Prim.Native.Nat.{ℕ, zero, suc, _+_, _*_}
 use Rattle.mapper_rules.specs.Walk.{span}
-use Rattle.mapper_rules.specs.Numbers.{badLevel, topBytes}
+use Rattle.mapper_rules.specs.Numbers.{badLevel, topBytes, badRegisters, badRange, badNumbers}
+use Rattle.mapper_rules.specs.Asks.{Ask, judged, asks}
 
 -- of T0SZ 0 to n - 1, with this SL0
 unfoldable pub allowed : ℕ → ℕ → List (List ℕ)
@@ -24,3 +25,7 @@ pub levels : map (λ sl. allowed sl 64) (2 ∷ 1 ∷ 0 ∷ 3 ∷ [])
     ∷ []
 unfolding allowed badLevel topBytes span
 levels = refl
+
+pub asked : map judged asks ≡ map (λ (a : Ask). a .refused) asks
+unfolding badNumbers badRegisters badRange badLevel topBytes span
+asked = refl

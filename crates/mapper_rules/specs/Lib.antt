@@ -1,4 +1,5 @@
--- The walk, the numbers that a map refuses, and the walk's ledger.
+-- The walk and its ledger; the numbers that a map refuses, and cases of them.
 pub mod Walk
-pub mod Numbers
 pub mod Ledger
+pub mod Numbers
+pub mod Asks
