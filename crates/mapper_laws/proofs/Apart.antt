@@ -38,7 +38,8 @@ module _ (pageOf : ℕ → ℕ) where
   same-tree u v (suc h) d same = go (isTable d) same (λ i k. same-tree u v h (u (512 * pageOf d + i)) k)
     where
       go : (c : Bool) → ((w : ℕ) → Has (suc h) (cond c (Leads d (table (λ j. leadsTo pageOf u h (u (512 * pageOf d + j))))) (Ends d)) (w / 512) → u w ≡ v w)
-          → ((i : ℕ) → ((w : ℕ) → Has h (leadsTo pageOf u h (u (512 * pageOf d + i))) (w / 512) → u w ≡ v w) → leadsTo pageOf u h (u (512 * pageOf d + i)) ≡ leadsTo pageOf v h (u (512 * pageOf d + i)))
+          → ((i : ℕ) → ((w : ℕ) → Has h (leadsTo pageOf u h (u (512 * pageOf d + i))) (w / 512) → u w ≡ v w)
+          → leadsTo pageOf u h (u (512 * pageOf d + i)) ≡ leadsTo pageOf v h (u (512 * pageOf d + i)))
           → cond c (Leads d (table (λ j. leadsTo pageOf u h (u (512 * pageOf d + j))))) (Ends d) ≡ cond c (Leads d (table (λ j. leadsTo pageOf v h (v (512 * pageOf d + j))))) (Ends d)
       go false same below = refl
       go true same below = ap (Leads d) (fun-ext (λ j.

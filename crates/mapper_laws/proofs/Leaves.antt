@@ -15,7 +15,8 @@ use Rattle.mapper_laws.specs.Mapping.{outputOf, asked, askedAttributes, 
 low-bits : (k c i n r : ℕ) → r * 2 ^ (n + i) ≡ 4096 → bits i n (k * 4096 + c) ≡ c % 2 ^ (n + i) / 2 ^ i
 low-bits k c i n r e =
     sym (field (k * 4096 + c) n i)
-    ∙ ap (λ (y : ℕ). y / 2 ^ i) (ap (λ (m : ℕ). (k * m + c) % 2 ^ (n + i)) (sym e) ∙ ap (λ (m : ℕ). (m + c) % 2 ^ (n + i)) (sym (mul-assoc k r (2 ^ (n + i)))) ∙ mul-add-mod-self-right (k * r) (2 ^ (n + i)) c)
+    ∙ ap (λ (y : ℕ). y / 2 ^ i) (ap (λ (m : ℕ). (k * m + c) % 2 ^ (n + i)) (sym e)
+    ∙ ap (λ (m : ℕ). (m + c) % 2 ^ (n + i)) (sym (mul-assoc k r (2 ^ (n + i)))) ∙ mul-add-mod-self-right (k * r) (2 ^ (n + i)) c)
 
 -- those above it are clear
 high-bits : (w i n : ℕ) → w < 2 ^ i → bits i n w ≡ 0

@@ -43,7 +43,8 @@ module _ (q : Mapping) (page pageOf : ℕ → ℕ) where
     unfolding store
     store-table o t = rw (T-true (opens q (suc h) e) o, T-true (isTable (s .word i)) t)
 
-    store-fresh : T (opens q (suc h) e) → T (not (isTable (s .word i))) → store q page pageOf (suc h) e i s ≡ steps 512 (λ j. store q page pageOf h (e + j * span h) (512 * free (s .handed) + j)) (put i (tableWord (page (s .handed))) (hand (free (s .handed)) s))
+    store-fresh : T (opens q (suc h) e) → T (not (isTable (s .word i)))
+        → store q page pageOf (suc h) e i s ≡ steps 512 (λ j. store q page pageOf h (e + j * span h) (512 * free (s .handed) + j)) (put i (tableWord (page (s .handed))) (hand (free (s .handed)) s))
     unfolding store
     store-fresh o t = rw (T-true (opens q (suc h) e) o, T-false (isTable (s .word i)) t)
 
@@ -56,11 +57,13 @@ module _ (q : Mapping) (page pageOf : ℕ → ℕ) where
     store-none o m = rw (T-false (opens q (suc h) e) o, T-false (meets q (suc h) e) m)
 
   module _ (h e n : ℕ) where
-    mapped-table : (d : ℕ) (f : ℕ → Entry) → T (opens q (suc h) e) → mapped q page (suc h) e n (Leads d f) ≡ Leads d (table (λ j. mapped q page h (e + j * span h) (n + sum j (λ i. wants q h (e + i * span h) (f i))) (f j)))
+    mapped-table : (d : ℕ) (f : ℕ → Entry) → T (opens q (suc h) e)
+        → mapped q page (suc h) e n (Leads d f) ≡ Leads d (table (λ j. mapped q page h (e + j * span h) (n + sum j (λ i. wants q h (e + i * span h) (f i))) (f j)))
     unfolding mapped
     mapped-table d f o = rw (T-true (opens q (suc h) e) o)
 
-    mapped-fresh : (d : ℕ) → T (opens q (suc h) e) → mapped q page (suc h) e n (Ends d) ≡ Leads (tableWord (page n)) (table (λ j. mapped q page h (e + j * span h) (suc n + sum j (λ i. wants q h (e + i * span h) (Ends 0))) (Ends 0)))
+    mapped-fresh : (d : ℕ) → T (opens q (suc h) e)
+        → mapped q page (suc h) e n (Ends d) ≡ Leads (tableWord (page n)) (table (λ j. mapped q page h (e + j * span h) (suc n + sum j (λ i. wants q h (e + i * span h) (Ends 0))) (Ends 0)))
     unfolding mapped
     mapped-fresh d o = rw (T-true (opens q (suc h) e) o)
 
@@ -174,7 +177,8 @@ module _ (q : Mapping) (page pageOf : ℕ → ℕ) where
 
       -- an entry other than the k-th, which leads to X, when the k-th is stored
       kept : (k : ℕ) (t t′ : Stored) → k < m → Table → Refined h (e + k * span h) (first + k) t t′ (f k) → ((x : ℕ) → Own x → Has pageOf h (mapped q page h (e + k * span h) (t .handed) (f k)) x → ⊥)
-          → (j : ℕ) (X : Entry) → j < m → j ≢ k → tree h (first + j) t ≡ X → ((x : ℕ) → Own x → Has pageOf h X x → ⊥) → ((x : ℕ) → Has pageOf h X x → Has pageOf h (mapped q page h (e + k * span h) (t .handed) (f k)) x → ⊥)
+          → (j : ℕ) (X : Entry) → j < m → j ≢ k → tree h (first + j) t ≡ X → ((x : ℕ) → Own x → Has pageOf h X x → ⊥)
+          → ((x : ℕ) → Has pageOf h X x → Has pageOf h (mapped q page h (e + k * span h) (t .handed) (f k)) x → ⊥)
           → tree h (first + j) t′ ≡ X
       kept k t t′ few b r new j X lt other is own apart =
           let at-j = b .own j lt in
@@ -268,7 +272,8 @@ module _ (q : Mapping) (page pageOf : ℕ → ℕ) where
       abbrev grown : ℕ → Entry
       grown = made h e (512 * pageOf d) 512 (λ x. x ≡ pageOf d) s old
 
-      table-refined : T (isTable d) → Ready (suc h) i s (Leads d old) → s .handed + wants q (suc h) e (Leads d old) ≤ N → Refined (suc h) e i s (after h e (512 * pageOf d) 512 (λ x. x ≡ pageOf d) s old 512) (Leads d old)
+      table-refined : T (isTable d) → Ready (suc h) i s (Leads d old) → s .handed + wants q (suc h) e (Leads d old) ≤ N
+          → Refined (suc h) e i s (after h e (512 * pageOf d) 512 (λ x. x ≡ pageOf d) s old 512) (Leads d old)
       unfolding Has
       table-refined t rd room =
           let s′ = after h e (512 * pageOf d) 512 (λ x. x ≡ pageOf d) s old 512 in
@@ -277,7 +282,10 @@ module _ (q : Mapping) (page pageOf : ℕ → ℕ) where
           let w = wants-table h e d old o in
           let here : s′ .word i ≡ d = u .frame i (λ g. rd .off (inl g)) (λ j lt y.
           let part = sum-part 512 (λ k. wants q h (e + k * span h) (old k)) j lt in
-          elim (has-mapped q page pageOf h (e + j * span h) _ (old j) (i / 512) y) [ inl g ↦ rd .off (inr (j, lt, g)) | inr z ↦ rd .fresh-here (z .0) (let l = z .1 in omega arith) (let m = z .2 in omega arith) (sym (z .3)) ]) in
+          elim (has-mapped q page pageOf h (e + j * span h) _ (old j) (i / 512) y) [
+            | inl g ↦ rd .off (inr (j, lt, g))
+            | inr z ↦ rd .fresh-here (z .0) (let l = z .1 in omega arith) (let m = z .2 in omega arith) (sym (z .3))
+          ]) in
           let to = mapped-table h e (s .handed) d old o in
           record {
             became = ap (leadsTo pageOf (s′ .word) (suc h)) here ∙ leads-table (s′ .word) h d t
@@ -326,7 +334,9 @@ module _ (q : Mapping) (page pageOf : ℕ → ℕ) where
           let w = wants-fresh h e x o in
           record {
             entries = λ j lt. let p = in-page (free n) j lt in
-                cleared h (begun .word) (512 * free n + j) (put-there i (tableWord (page n)) (512 * free n + j) (hand (free n) s) (λ g. rd .fresh-here n (omega arith) (omega arith) (sym p ∙ ap (λ (y : ℕ). y / 512) g)) ∙ hand-here (free n) (512 * free n + j) s p);
+                cleared h (begun .word) (512 * free n + j)
+                (put-there i (tableWord (page n)) (512 * free n + j) (hand (free n) s) (λ g. rd .fresh-here n (omega arith) (omega arith) (sym p ∙ ap (λ (y : ℕ). y / 512) g))
+                ∙ hand-here (free n) (512 * free n + j) s p);
             apart = λ j lt. nothing-apart h;
             own = λ j lt. in-page (free n) j lt;
             off = λ j lt x g. nothing-has h 0 x;
@@ -349,7 +359,10 @@ module _ (q : Mapping) (page pageOf : ℕ → ℕ) where
           let here : s′ .word i ≡ tableWord (page n) =
           u .frame i (λ g. rd .fresh-here n (omega arith) (omega arith) (sym g)) (λ j lt y.
           let part = sum-part 512 (λ k. wants q h (e + k * span h) (blank k)) j lt in
-          elim (has-mapped q page pageOf h (e + j * span h) _ (blank j) (i / 512) y) [ inl g ↦ nothing-has h 0 (i / 512) g | inr z ↦ rd .fresh-here (z .0) (let l = z .1 in omega arith) (let m = z .2 in omega arith) (sym (z .3)) ])
+          elim (has-mapped q page pageOf h (e + j * span h) _ (blank j) (i / 512) y) [
+            | inl g ↦ nothing-has h 0 (i / 512) g
+            | inr z ↦ rd .fresh-here (z .0) (let l = z .1 in omega arith) (let m = z .2 in omega arith) (sym (z .3))
+          ])
           ∙ put-here i (tableWord (page n)) (hand (free n) s) in
           let to = mapped-fresh h e n x o in
           record {
@@ -358,7 +371,8 @@ module _ (q : Mapping) (page pageOf : ℕ → ℕ) where
                 ∙ sym to;
             count = omega arith;
             frame = λ y a b. let off : y / 512 ≢ free n = λ g. b (subst (λ (X : Entry). Has pageOf (suc h) X (y / 512)) (sym to) (inl g)) in
-                u .frame y off (λ j lt v. b (subst (λ (X : Entry). Has pageOf (suc h) X (y / 512)) (sym to) (inr (j, lt, subst (λ (k : ℕ). Has pageOf h (planted k) (y / 512)) (sym (mod-eq-of-lt lt)) v))))
+                u .frame y off (λ j lt v. b (subst (λ (X : Entry). Has pageOf (suc h) X (y / 512)) (sym to)
+                (inr (j, lt, subst (λ (k : ℕ). Has pageOf h (planted k) (y / 512)) (sym (mod-eq-of-lt lt)) v))))
                 ∙ put-there i (tableWord (page n)) y (hand (free n) s) a ∙ hand-there (free n) y s off;
           }
 
@@ -368,16 +382,21 @@ module _ (q : Mapping) (page pageOf : ℕ → ℕ) where
     refines zero e i s E is rd room = subst (Refined 0 e i s (store q page pageOf 0 e i s)) is (page-refined e i s)
     refines (suc h) e i s E is rd room = elim (T-or-not (opens q (suc h) e)) [
       | inl o ↦ elim (T-or-not (isTable (s .word i))) [
-        | inl t ↦ by-tree (leads-table (s .word) h (s .word i) t) (λ r m. subst (λ (x : Stored). Refined (suc h) e i s x (Leads (s .word i) (old h e i s (refines h) o))) (sym (store-table h e i s o t)) (table-refined h e i s (refines h) o t r m))
-        | inr t ↦ by-tree (leads-ends (s .word) h (s .word i) t) (λ r m. subst (λ (x : Stored). Refined (suc h) e i s x (Ends (s .word i))) (sym (store-fresh h e i s o t)) (fresh-refined h e i s (refines h) o (s .word i) r m))
+        | inl t ↦ by-tree (leads-table (s .word) h (s .word i) t) (λ r m.
+            subst (λ (x : Stored). Refined (suc h) e i s x (Leads (s .word i) (old h e i s (refines h) o))) (sym (store-table h e i s o t)) (table-refined h e i s (refines h) o t r m))
+        | inr t ↦ by-tree (leads-ends (s .word) h (s .word i) t) (λ r m.
+            subst (λ (x : Stored). Refined (suc h) e i s x (Ends (s .word i))) (sym (store-fresh h e i s o t)) (fresh-refined h e i s (refines h) o (s .word i) r m))
       ]
       | inr o ↦ elim (T-or-not (meets q (suc h) e)) [
-        | inl m ↦ subst (Refined (suc h) e i s (store q page pageOf (suc h) e i s)) is (subst (λ (x : Stored). Refined (suc h) e i s x (tree (suc h) i s)) (sym (store-leaf h e i s o m)) (leaf-refined h e i s o m))
-        | inr m ↦ subst (Refined (suc h) e i s (store q page pageOf (suc h) e i s)) is (subst (λ (x : Stored). Refined (suc h) e i s x (tree (suc h) i s)) (sym (store-none h e i s o m)) (none-refined h e i s o m))
+        | inl m ↦ subst (Refined (suc h) e i s (store q page pageOf (suc h) e i s)) is
+            (subst (λ (x : Stored). Refined (suc h) e i s x (tree (suc h) i s)) (sym (store-leaf h e i s o m)) (leaf-refined h e i s o m))
+        | inr m ↦ subst (Refined (suc h) e i s (store q page pageOf (suc h) e i s)) is
+            (subst (λ (x : Stored). Refined (suc h) e i s x (tree (suc h) i s)) (sym (store-none h e i s o m)) (none-refined h e i s o m))
       ]
     ]
       where
-        by-tree : {X : Entry} → tree (suc h) i s ≡ X → (Ready (suc h) i s X → s .handed + wants q (suc h) e X ≤ N → Refined (suc h) e i s (store q page pageOf (suc h) e i s) X) → Refined (suc h) e i s (store q page pageOf (suc h) e i s) E
+        by-tree : {X : Entry} → tree (suc h) i s ≡ X
+            → (Ready (suc h) i s X → s .handed + wants q (suc h) e X ≤ N → Refined (suc h) e i s (store q page pageOf (suc h) e i s) X) → Refined (suc h) e i s (store q page pageOf (suc h) e i s) E
         by-tree {X} to f =
             let x : E ≡ X = sym is ∙ to in
             subst (Refined (suc h) e i s (store q page pageOf (suc h) e i s)) (sym x) (f (subst (Ready (suc h) i s) x rd) (subst (λ (Y : Entry). s .handed + wants q (suc h) e Y ≤ N) x room))

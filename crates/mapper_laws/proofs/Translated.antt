@@ -32,7 +32,8 @@ tree-walk word (suc h) d x = go (isTable d) (
     ∙ ap (λ (i : ℕ). walkEntry h (leadsTo pageOf word h (word (512 * pageOf d + i))) x) (sym (mod-mod (x / span h) 512)))
   where
     go : (c : Bool) → walkFrom (memory word) h (memory word (tableAt d + 8 * (x / span h % 512))) x ≡ walkEntry h (leadsTo pageOf word h (word (512 * pageOf d + x / span h % 512 % 512))) x
-        → cond c (walkFrom (memory word) h (memory word (tableAt d + 8 * (x / span h % 512))) x) (cond (isBlock (suc h) d) (leaf (suc h) d x) Fault) ≡ walkEntry (suc h) (cond c (Leads d (table (λ j. leadsTo pageOf word h (word (512 * pageOf d + j))))) (Ends d)) x
+        → cond c (walkFrom (memory word) h (memory word (tableAt d + 8 * (x / span h % 512))) x) (cond (isBlock (suc h) d) (leaf (suc h) d x) Fault)
+        ≡ walkEntry (suc h) (cond c (Leads d (table (λ j. leadsTo pageOf word h (word (512 * pageOf d + j))))) (Ends d)) x
     go true e = e
     go false e = refl
 

@@ -19,7 +19,8 @@ returns-2 c = let asked = c .before in
 
 returns-3 : tie.Need-returns-3
 returns-3 c = let asked = c .before .before in
-    too-high (asked .before .before .before .before .args .q) _ _ _ (asked .before .span-of .ensures) (asked .before .before .if1 .left) (sym (asked .below-sum .ensures) ∙ c .before .if2 .left) (c .if3 .taken)
+    too-high (asked .before .before .before .before .args .q) _ _ _
+    (asked .before .span-of .ensures) (asked .before .before .if1 .left) (sym (asked .below-sum .ensures) ∙ c .before .if2 .left) (c .if3 .taken)
 
 rem-result : tie.Need-rem-result
 rem-result c = positive _ _ (c .before .before .before .before .span-of .ensures)
@@ -36,7 +37,8 @@ rem-result-3 c = positive _ _ (c .before .before .before .before .before .span-o
 returns-4 : tie.Need-returns-4
 returns-4 c = let passed = c .before .before in
     let asked = passed .before .before in
-    whole (asked .before .before .before .before .args .q) _ _ _ (asked .before .span-of .ensures) (asked .before .before .if1 .left) (sym (asked .below-sum .ensures) ∙ passed .before .if2 .left) (passed .if3 .left)
+    whole (asked .before .before .before .before .args .q) _ _ _
+    (asked .before .span-of .ensures) (asked .before .before .if1 .left) (sym (asked .below-sum .ensures) ∙ passed .before .if2 .left) (passed .if3 .left)
 
 pub word-fits-spec : {M : Type 1} → statement M
 word-fits-spec =
