@@ -12,5 +12,6 @@ pub mod Once
 pub mod Determined
 pub mod Arena
 pub mod Windows
+pub mod Again
 pub mod Registers
 pub mod Maps

@@ -17,8 +17,9 @@ use Rattle.mapper_laws.specs.Mapping.{inRange, asked, tableWord, wants, 
 use Rattle.mapper_laws.specs.Stores.{Stored, steps, store}
 use Rattle.mapper_laws.specs.Promise.{entryAt, topPages, tablesBelow, Outside, before, wanted, inTheWay, after, Fit, Maps}
 use Rattle.mapper_laws.proofs.Tests.{not-or-l, not-or-r}
-use Rattle.mapper_laws.proofs.Apart.{Has}
+use Rattle.mapper_laws.proofs.Apart.{Has, Apart}
 use Rattle.mapper_laws.proofs.Once.{in-l, in-r, Parts, parts, in-joined, once-of, two-of, of-joined, joined-same, in-or-not, has-in, in-has, once-apart}
+use Rattle.mapper_laws.proofs.Again.{once-append, once-joined, apart-once, Before, apart-made, none-made, two-made, keeps}
 use Rattle.mapper_laws.proofs.Determined.{rawOf, raw-leads, determined}
 use Rattle.mapper_laws.proofs.Handed.{slot}
 use Rattle.mapper_laws.proofs.Refines.{tree, Table, Upto, loop, refines}
@@ -187,6 +188,28 @@ module _ (q : Mapping) (word : ℕ → ℕ) (vttbr vtcr : ℕ) (page : ℕ → �
       ∙ ap (λ (e : ℕ). mapped q page H e (0 + sum j (λ i. wants q H (0 + i * span H) (f i))) (f j)) (zero-add (j * span H))
       ∙ ap (λ (n : ℕ). mapped q page H (j * span H) n (f j)) (zero-add (sum j (λ i. wants q H (0 + i * span H) (f i))) ∙ counted j)
 
+  -- ---- no table twice
+
+  before-all : Before q page pageOf N (pages .once) H 0 0 m f
+  before-all = record { apart = the-table .apart; two = the-table .two; fresh = the-table .fresh-tables; room = the-table .room }
+
+  abbrev Made : ℕ → Entry
+  Made j = mapped q page H (0 + j * span H) (0 + sum j (λ i. wants q H (0 + i * span H) (f i))) (f j)
+
+  has-made : (j : ℕ) → j < m → (p : ℕ) → In p (tables pageOf H (leads j)) → Has pageOf H (Made j) p
+  has-made j l p i = subst (λ (E : Entry). Has pageOf H E p) (all .done j l) (in-has pageOf H (leads j) p i)
+
+  again : Once (tops ++ tablesBelow (stored .word) vttbr vtcr)
+  unfolding tablesBelow
+  again = once-append tops (joined m (λ j. tables pageOf H (leads j))) (inner .first)
+      (once-joined m (λ j. tables pageOf H (leads j))
+      (λ j l. apart-once pageOf H (leads j) (subst (Apart pageOf H) (sym (all .done j l))
+      (apart-made q page pageOf N (pages .once) H 0 0 m f before-all (keeps q page pageOf N (pages .once) H) j l)))
+      (λ i j li lj d p x y. two-made q page pageOf N (pages .once) H 0 0 m f before-all i j li lj d p (has-made i li p x) (has-made j lj p y)))
+      (λ p o i. let at = of-joined m (λ j. tables pageOf H (leads j)) p i in
+      none-made q page pageOf N (pages .once) H 0 0 m f before-all p (λ k low high g. the-table .fresh-here k low high (subst Own g o))
+      (at .0) (at .1) (the-table .off (at .0) (at .1) p o) (has-made (at .0) (at .1) p (at .2)))
+
   -- ---- no other words
 
   module _ (v : ℕ → ℕ) (same : (j : ℕ) → j < m → entryAt v vttbr vtcr j ≡ leads j) (frame : (w : ℕ) → Outside v vttbr vtcr w → v w ≡ word w) where
@@ -228,6 +251,7 @@ module _ (q : Mapping) (word : ℕ → ℕ) (vttbr vtcr : ℕ) (page : ℕ → �
     tree = λ j l. subst (λ (t : Stored). entryAt (t .word) vttbr vtcr j ≡ mapped q page H (j * span H) (before q word vttbr vtcr j) (f j)) after-is (made j l);
     frame = subst (λ (t : Stored). (w : ℕ) → Outside (t .word) vttbr vtcr w → t .word w ≡ word w) after-is kept;
     handed = subst (λ (t : Stored). t .handed ≡ N) after-is (all .count ∙ zero-add (sum m (λ j. wants q H (0 + j * span H) (f j))) ∙ wanted-is);
+    once = subst (λ (t : Stored). Once (tops ++ tablesBelow (t .word) vttbr vtcr)) after-is again;
     determined = subst (λ (t : Stored). (v : ℕ → ℕ) → ((j : ℕ) → j < m → entryAt v vttbr vtcr j ≡ entryAt (t .word) vttbr vtcr j)
         → ((w : ℕ) → Outside v vttbr vtcr w → v w ≡ word w) → (w : ℕ) → v w ≡ t .word w) after-is no-other;
   }

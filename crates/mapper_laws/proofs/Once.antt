@@ -18,7 +18,7 @@ pub in-r : (p : ℕ) (a b : List ℕ) → In p b → In p (a ++ b)
 in-r p [] b i = i
 in-r p (x ∷ a) b i = inr (in-r p a b i)
 
-in-either : (p : ℕ) (a b : List ℕ) → In p (a ++ b) → In p a ⊎ In p b
+pub in-either : (p : ℕ) (a b : List ℕ) → In p (a ++ b) → In p a ⊎ In p b
 in-either p [] b i = inr i
 in-either p (x ∷ a) b (inl e) = inl (inl e)
 in-either p (x ∷ a) b (inr i) = elim (in-either p a b i) [ inl l ↦ inl (inr l) | inr r ↦ inr r ]

@@ -64,11 +64,12 @@ module _ (q : Mapping) (word : ℕ → ℕ) (vttbr vtcr : ℕ) where
       pub once : Once (reached word vttbr vtcr ++ joined wanted (λ k. (page k / 4096) ∷ []))
 
     -- what holds then: as asked and as before, of every input; the tree is the mapped one; outside of it no word changes; every page that was
-    -- wanted is handed out; and no other words lead to that tree and are as before outside of it
+    -- wanted is handed out; no table is reached twice; and no other words lead to that tree and are as before outside of it
     pub record Maps : Type 0 where
       pub translated : (x : ℕ) → walk (memory (after .word)) vttbr vtcr x ≡ cond (inRange q x) (asked q x) (walk (memory word) vttbr vtcr x)
       pub tree : (j : ℕ) → j < topEntries vtcr → entryAt (after .word) vttbr vtcr j ≡ mapped q page (topHeight vtcr) (begin j) (before j) (entryAt word vttbr vtcr j)
       pub frame : (w : ℕ) → Outside (after .word) vttbr vtcr w → after .word w ≡ word w
       pub handed : after .handed ≡ wanted
+      pub once : Once (reached (after .word) vttbr vtcr)
       pub determined : (v : ℕ → ℕ) → ((j : ℕ) → j < topEntries vtcr → entryAt v vttbr vtcr j ≡ entryAt (after .word) vttbr vtcr j)
           → ((w : ℕ) → Outside v vttbr vtcr w → v w ≡ word w) → (w : ℕ) → v w ≡ after .word w
