@@ -15,3 +15,4 @@ pub mod Windows
 pub mod Again
 pub mod Registers
 pub mod Maps
+pub mod Asked

@@ -11,6 +11,10 @@ use Rattle.mapper_laws.specs.Tree.{Entry, Ends, Leads, table, sum, some}
 unfoldable pub permissionOf : Bool → Bool → ℕ
 permissionOf readable writable = cond writable 2 0 + cond readable 1 0
 
+-- the mapping of `size` bytes from `input` on to those from `output` on
+abbrev pub mappingOf : ℕ → ℕ → ℕ → Bool → Bool → Mapping
+mappingOf output input size readable writable = record { from = input; past = input + size; out = output; permission = permissionOf readable writable }
+
 -- whole pages, whose outputs lie below 2 ^ 48, and a permission of two bits
 pub record Sane (q : Mapping) : Type 0 where
   pub from-page : q .from % 4096 ≡ 0
