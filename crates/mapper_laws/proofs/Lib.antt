@@ -1,5 +1,6 @@
--- Mapped shows as asked and as before of the tree, Refines that the stores make that tree and the frame, Translated both of the words.
--- Once leads from a list of tables to tables that lie apart, Windows from marks to such a list, and Determined from tree to words.
+-- Mapped shows as asked and as before of the tree, Refines that the stores make that tree and the frame, Translated both of the words. Once
+-- leads from a list of tables to tables that lie apart, Again back to such a list, Windows from marks to one, and Determined from tree to
+-- words. Maps has the promise, Asked the numbers that lead to it, Trials some maps by computation, Arena the words of a lent list.
 pub mod Tests
 pub mod Leaves
 pub mod Spans
@@ -9,10 +10,11 @@ pub mod Handed
 pub mod Refines
 pub mod Translated
 pub mod Once
-pub mod Determined
-pub mod Arena
-pub mod Windows
 pub mod Again
+pub mod Determined
 pub mod Registers
 pub mod Maps
 pub mod Asked
+pub mod Trials
+pub mod Windows
+pub mod Arena
