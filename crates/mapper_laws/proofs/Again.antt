@@ -1,19 +1,19 @@
 -- A mapping leaves tables apart that were apart: none is reached twice afterwards. Assumes nothing.
-use mathlib.Core.Path.{_≡_, refl, sym, _∙_, ap, subst}
+use mathlib.Core.Path.{_≡_, refl, sym, _∙_, subst}
 use mathlib.Core.Logic.{_⊎_, inl, inr, _≢_}
 use mathlib.Core.Bool.{Bool, true, false, not, cond}
 use mathlib.Core.List.{List, [], _∷_, _++_}
-use Prim.Native.Nat.{ℕ, zero, suc, _+_, _*_, _%_, _≤_, _<_}
+use Prim.Native.Nat.{ℕ, zero, suc, _+_, _*_, _≤_, _<_}
 use native.Mathlib.Omega.{arith}
 use native.Mathlib.Nat.{mod-eq-of-lt}
-use lib.Dec.{T, ltb, eqb, ltb→lt, nltb→le, eqb→eq}
-use Rattle.laws.proofs.Lists.{T-or-not, neq}
+use lib.Dec.{ltb, ltb→lt, nltb→le}
+use Rattle.laws.proofs.Lists.{T-or-not}
 use Rattle.mapper_rules.specs.Walk.{span}
 use Rattle.mapper_laws.specs.declared.Mapping.{Mapping}
 use Rattle.mapper_laws.specs.Tree.{Entry, Ends, Leads, table, joined, sum, tables, In, Once}
 use Rattle.mapper_laws.specs.Mapping.{meets, opens, leafWord, tableWord, wants, mapped}
-use Rattle.mapper_laws.proofs.Apart.{Has, Apart}
-use Rattle.mapper_laws.proofs.Once.{in-l, in-r, in-either, in-joined, of-joined, has-in, in-has}
+use Rattle.mapper_laws.proofs.Apart.{Has, ends-none, Apart, apart-ends}
+use Rattle.mapper_laws.proofs.Once.{in-either, of-joined, in-has}
 use Rattle.mapper_laws.proofs.Handed.{slot, Between, has-mapped, sum-part}
 
 -- ---- lists
@@ -132,16 +132,6 @@ module _ (q : Mapping) (page pageOf : ℕ → ℕ) (N : ℕ) (once : (k l : ℕ)
       at : (j : ℕ) → j < 512 → (p : ℕ) → Has pageOf h (table (made h e n 512 f) j) p → Has pageOf h (made h e n 512 f j) p
       at j l p = subst (λ (i : ℕ). Has pageOf h (made h e n 512 f i) p) (mod-eq-of-lt l)
 
-  apart-ends : (h d : ℕ) → Apart pageOf h (Ends d)
-  unfolding Apart
-  apart-ends zero d = tt
-  apart-ends (suc h) d = tt
-
-  ends-none : (h d p : ℕ) → Has pageOf h (Ends d) p → ⊥
-  unfolding Has
-  ends-none zero d p g = g
-  ends-none (suc h) d p g = g
-
   pub keeps : (h : ℕ) → Keeps h
   unfolding mapped wants Apart Has
   keeps zero e n E a room fresh = tt
@@ -150,11 +140,11 @@ module _ (q : Mapping) (page pageOf : ℕ → ℕ) (N : ℕ) (once : (k l : ℕ)
       go : Keeps h → (c m : Bool) → n + cond c (suc (sum 512 (λ j. wants q h (e + j * span h) (Ends 0)))) 0 ≤ N
           → Apart pageOf (suc h) (cond c (Leads (tableWord (page n)) (table (made h e (suc n) 512 (λ j. Ends 0)))) (cond m (Ends (leafWord q (suc h) e)) (Ends d)))
       go below true m r = over h e (suc n) (tableWord (page n)) (λ j. Ends 0) (record {
-        apart = λ j l. apart-ends h 0;
-        two = λ i j li lj d p x y. ends-none h 0 p x;
-        fresh = λ k low high j l g. ends-none h 0 (slot q page pageOf k) g;
+        apart = λ j l. apart-ends pageOf h 0;
+        two = λ i j li lj d p x y. ends-none pageOf h 0 p x;
+        fresh = λ k low high j l g. ends-none pageOf h 0 (slot q page pageOf k) g;
         room = omega arith;
-      }) below (λ k low high g. let same = once n k (omega arith) high g in let z : ⊥ = omega arith in z) (λ j l g. ends-none h 0 (slot q page pageOf n) g)
+      }) below (λ k low high g. let same = once n k (omega arith) high g in let z : ⊥ = omega arith in z) (λ j l g. ends-none pageOf h 0 (slot q page pageOf n) g)
       go below false true r = tt
       go below false false r = tt
   keeps (suc h) e n (Leads d f) a room fresh = go (keeps h) (opens q (suc h) e) (meets q (suc h) e) room

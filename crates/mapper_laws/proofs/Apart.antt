@@ -1,17 +1,13 @@
 -- Tables that lie apart: what a store elsewhere leaves as it is. Assumes nothing.
 use mathlib.Core.Path.{_≡_, refl, sym, _∙_, ap, subst, fun-ext}
 use mathlib.Core.Logic.{_⊎_, inl, inr, _≢_}
-use mathlib.Core.Bool.{Bool, true, false, not, cond, _&&_, _||_}
-use Prim.Native.Nat.{ℕ, zero, suc, _+_, _-_, _*_, _/_, _%_, _^_, _≤_, _<_}
-use native.Mathlib.Omega.{arith}
+use mathlib.Core.Bool.{Bool, true, false, cond}
+use Prim.Native.Nat.{ℕ, zero, suc, _+_, _*_, _/_, _%_, _<_}
 use native.Mathlib.Nat.{mod-lt, mod-mod, mul-comm}
 use lib.Arith.{digits-div}
-use lib.Dec.{T, leb, ltb, eqb, eqb→eq, lit<}
-use Rattle.mapper_rules.specs.Walk.{span, isTable}
-use Rattle.laws.proofs.Lists.{if, T-or-not, neq}
-use Rattle.mapper_laws.specs.declared.Mapping.{Mapping}
-use Rattle.mapper_laws.specs.Tree.{Entry, Ends, Leads, table, sum, leadsTo}
-use Rattle.mapper_laws.specs.Mapping.{meets, opens, leafWord, tableWord, wants, mapped}
+use lib.Dec.{lit<}
+use Rattle.mapper_rules.specs.Walk.{isTable}
+use Rattle.mapper_laws.specs.Tree.{Entry, Ends, Leads, table, leadsTo}
 
 pub in-page : (p j : ℕ) → j < 512 → (512 * p + j) / 512 ≡ p
 in-page p j h = ap (λ (y : ℕ). (y + j) / 512) (mul-comm 512 p) ∙ digits-div p h
@@ -23,6 +19,11 @@ module _ (pageOf : ℕ → ℕ) where
   Has (suc h) (Ends d) p = ⊥
   Has (suc h) (Leads d f) p = (p ≡ pageOf d) ⊎ ((j : ℕ) × (j < 512) × Has h (f j) p)
 
+  pub ends-none : (h d p : ℕ) → Has h (Ends d) p → ⊥
+  unfolding Has
+  ends-none zero d p g = g
+  ends-none (suc h) d p g = g
+
   -- no table is reached twice
   unfoldable pub Apart : ℕ → Entry → Type 0
   Apart zero E = Unit {0}
@@ -30,6 +31,11 @@ module _ (pageOf : ℕ → ℕ) where
   Apart (suc h) (Leads d f) =
       ((j : ℕ) → j < 512 → Apart h (f j) × (Has h (f j) (pageOf d) → ⊥))
       × ((i j : ℕ) → i < 512 → j < 512 → i ≢ j → (p : ℕ) → Has h (f i) p → Has h (f j) p → ⊥)
+
+  pub apart-ends : (h d : ℕ) → Apart h (Ends d)
+  unfolding Apart
+  apart-ends zero d = tt
+  apart-ends (suc h) d = tt
 
   -- words that no table of the tree has may change
   pub same-tree : (u v : ℕ → ℕ) (h d : ℕ) → ((w : ℕ) → Has h (leadsTo pageOf u h d) (w / 512) → u w ≡ v w) → leadsTo pageOf u h d ≡ leadsTo pageOf v h d

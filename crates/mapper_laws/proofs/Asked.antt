@@ -1,6 +1,6 @@
 -- Numbers that are not refused are those that the promise asks for. Assumes nothing.
 use mathlib.Core.Bool.{Bool, true, false, not, _||_}
-use Prim.Native.Nat.{ℕ, _+_, _-_, _*_, _%_, _^_, _≤_, _<_}
+use Prim.Native.Nat.{ℕ, _+_, _%_, _≤_, _<_}
 use native.Mathlib.Omega.{arith}
 use lib.Dec.{T, ltb, eqb, eqb→eq, nltb→le, lit<}
 use Rattle.laws.proofs.Lists.{neq}

@@ -1,11 +1,9 @@
 -- What words lead to determines them: two arenas that lead to the same have the same words in every table. Assumes nothing.
 use mathlib.Core.Path.{_≡_, refl, sym, _∙_, ap, subst}
-use mathlib.Core.Logic.{_⊎_, inl, inr}
+use mathlib.Core.Logic.{inl, inr}
 use mathlib.Core.Bool.{Bool, true, false, cond}
-use Prim.Native.Nat.{ℕ, zero, suc, _+_, _*_, _/_, _%_, _<_}
-use native.Mathlib.Omega.{arith}
-use native.Mathlib.Nat.{div-add-mod, mod-lt, mod-mod}
-use lib.Dec.{lit<}
+use Prim.Native.Nat.{ℕ, zero, suc, _+_, _*_, _/_, _%_}
+use native.Mathlib.Nat.{div-add-mod, mod-mod}
 use Rattle.mapper_rules.specs.Walk.{isTable}
 use Rattle.mapper_laws.specs.Tree.{Entry, Ends, Leads, table, leadsTo}
 use Rattle.mapper_laws.proofs.Apart.{Has}

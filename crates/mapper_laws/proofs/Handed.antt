@@ -1,17 +1,17 @@
 -- The tables of a mapped entry are those that it had, and pages handed out for it. Assumes nothing.
-use mathlib.Core.Path.{_≡_, refl, sym, _∙_, ap, subst}
-use mathlib.Core.Logic.{_⊎_, inl, inr, _≢_}
-use mathlib.Core.Bool.{Bool, true, false, not, cond, _&&_, _||_}
-use Prim.Native.Nat.{ℕ, zero, suc, _+_, _-_, _*_, _/_, _%_, _^_, _≤_, _<_}
+use mathlib.Core.Path.{_≡_, sym, subst}
+use mathlib.Core.Logic.{_⊎_, inl, inr}
+use mathlib.Core.Bool.{Bool, true, false, cond}
+use Prim.Native.Nat.{ℕ, zero, suc, _+_, _*_, _≤_, _<_}
 use native.Mathlib.Omega.{arith}
-use native.Mathlib.Nat.{mod-lt, mod-eq-of-lt}
-use lib.Dec.{T, leb, ltb, eqb, eqb→eq, lit<}
-use Rattle.mapper_rules.specs.Walk.{span, isTable}
-use Rattle.laws.proofs.Lists.{if, T-or-not, T-true, T-false, neq}
+use native.Mathlib.Nat.{mod-eq-of-lt}
+use lib.Dec.{eqb, eqb→eq}
+use Rattle.mapper_rules.specs.Walk.{span}
+use Rattle.laws.proofs.Lists.{T-or-not, neq}
 use Rattle.mapper_laws.specs.declared.Mapping.{Mapping}
 use Rattle.mapper_laws.specs.Tree.{Entry, Ends, Leads, table, sum}
 use Rattle.mapper_laws.specs.Mapping.{meets, opens, leafWord, tableWord, wants, mapped}
-use Rattle.mapper_laws.proofs.Apart.{Has}
+use Rattle.mapper_laws.proofs.Apart.{Has, ends-none}
 
 -- a part of a sum is at most the whole
 pub sum-part : (n : ℕ) (f : ℕ → ℕ) (j : ℕ) → j < n → sum j f + f j ≤ sum n f
@@ -45,11 +45,6 @@ module _ (q : Mapping) (page pageOf : ℕ → ℕ) where
           | inr b ↦ inr (wider (omega arith) (omega arith) b)
         ]
 
-  none : (h d p : ℕ) → Has pageOf h (Ends d) p → ⊥
-  unfolding Has
-  none zero d p g = g
-  none (suc h) d p g = g
-
   pub has-mapped : (h e n : ℕ) (E : Entry) (p : ℕ) → Has pageOf h (mapped q page h e n E) p → Has pageOf h E p ⊎ Between n (n + wants q h e E) p
   unfolding mapped wants Has
   has-mapped zero e n E p g = absurd g
@@ -64,7 +59,7 @@ module _ (q : Mapping) (page pageOf : ℕ → ℕ) where
       go : (c m : Bool) → (((j : ℕ) × (j < 512) × Has pageOf h (new j) p) → ((j : ℕ) × (j < 512) × Has pageOf h (Ends 0) p) ⊎ Between (suc n) (suc n + all) p)
           → Has pageOf (suc h) (cond c (Leads (tableWord (page n)) new) (cond m (Ends (leafWord q (suc h) e)) (Ends d))) p → ⊥ ⊎ Between n (n + cond c (suc all) 0) p
       go true m b (inl e) = inr (n, omega arith, omega arith, e)
-      go true m b (inr g) = elim (b g) [ inl o ↦ absurd (none h 0 p (o .2)) | inr k ↦ inr (wider (omega arith) (omega arith) k) ]
+      go true m b (inr g) = elim (b g) [ inl o ↦ absurd (ends-none pageOf h 0 p (o .2)) | inr k ↦ inr (wider (omega arith) (omega arith) k) ]
       go false true b g = absurd g
       go false false b g = absurd g
   has-mapped (suc h) e n (Leads d f) p g = go (opens q (suc h) e) (meets q (suc h) e) (below h e (has-mapped h) f n p) g

@@ -1,15 +1,16 @@
 -- A leaf that the mapping writes is read as asked. Assumes nothing.
 use mathlib.Core.Path.{_≡_, refl, sym, _∙_, ap}
-use mathlib.Core.Bool.{Bool, true, false, not, cond, _&&_, _||_}
+use mathlib.Core.Bool.{Bool, true, false, cond}
 use Prim.Native.Nat.{ℕ, zero, suc, _+_, _-_, _*_, _/_, _%_, _^_, _≤_, _<_}
 use native.Mathlib.Omega.{arith}
-use native.Mathlib.Nat.{div-add-mod', mul-add-mod-self-right, div-eq-of-lt, zero-mod, mod-lt, mod-eq-of-lt, mul-assoc, div-lt-iff-lt-mul}
+use native.Mathlib.Nat.{mul-add-mod-self-right, div-eq-of-lt, zero-mod, mod-eq-of-lt, mul-assoc, div-lt-iff-lt-mul}
 use lib.Pow.{field}
 use lib.Arith.{digits-div, digits-mod}
-use lib.Dec.{T, leb, ltb, eqb, lit<}
-use Rattle.mapper_rules.specs.Walk.{bits, span, Translation, Fault, To, Attributes, attributesOf, leaf}
+use lib.Dec.{lit<}
+use Rattle.mapper_rules.specs.Walk.{bits, span, To, attributesOf, leaf}
 use Rattle.mapper_laws.specs.declared.Mapping.{Mapping}
 use Rattle.mapper_laws.specs.Mapping.{outputOf, asked, askedAttributes, leafWord}
+use Rattle.mapper_laws.proofs.Spans.{multiple}
 
 -- bits that lie below the address are those of c
 low-bits : (k c i n r : ℕ) → r * 2 ^ (n + i) ≡ 4096 → bits i n (k * 4096 + c) ≡ c % 2 ^ (n + i) / 2 ^ i
@@ -78,9 +79,6 @@ pub record Serves (q : Mapping) (h e : ℕ) : Type 0 where
   pub aligned : outputOf q e % span h ≡ 0
   pub in-memory : outputOf q e + span h ≤ 2 ^ 48
   pub two-bits : q .permission < 4
-
-multiple : (n m : ℕ) → n % m ≡ 0 → n / m * m ≡ n
-multiple n m e = let d = div-add-mod' n m in omega arith
 
 -- S bytes in all, of which memory has M times as many
 module _ (S M r : ℕ) (pages : S ≡ r * 4096) (memory : M * S ≡ 2 ^ 48) (some-byte : 0 < r) where

@@ -1,23 +1,20 @@
 -- After a mapping the inputs of the range are translated as asked, all others as before. Assumes nothing.
 use mathlib.Core.Path.{_≡_, refl, sym, _∙_, ap, subst}
-use mathlib.Core.Logic.{_⊎_, inl, inr}
-use mathlib.Core.Bool.{Bool, true, false, not, cond, _&&_, _||_}
+use mathlib.Core.Logic.{inl, inr}
+use mathlib.Core.Bool.{Bool, true, false, not, cond, _&&_}
 use Prim.Native.Nat.{ℕ, zero, suc, _+_, _-_, _*_, _/_, _%_, _^_, _≤_, _<_}
 use native.Mathlib.Omega.{arith}
-use native.Mathlib.Nat.{div-add-mod', mod-lt, mod-mod, mul-mod-left}
+use native.Mathlib.Nat.{div-add-mod', mod-mod, mul-mod-left}
 use lib.Arith.{digits-mod}
-use lib.Dec.{T, lit≤, lit<, leb, ltb, eqb, leb→le, ltb→lt, nleb→lt, nltb→le, eqb→eq, le→leb, lt→ltb}
-use Rattle.mapper_rules.specs.Walk.{span, Translation, Fault, To, isTable, isBlock, tableAt, leaf}
+use lib.Dec.{T, lit≤, lit<, leb, ltb, eqb, leb→le, ltb→lt, eqb→eq, le→leb, lt→ltb}
+use Rattle.mapper_rules.specs.Walk.{span, Fault, isBlock, leaf}
 use Rattle.laws.proofs.Lists.{if, and-l, and-r, and-i, not-and, T-no, T-or-not, T-true, T-false, neq}
 use Rattle.mapper_laws.specs.declared.Mapping.{Mapping}
 use Rattle.mapper_laws.specs.Tree.{Entry, Ends, Leads, walkEntry, some, sum}
-use Rattle.mapper_laws.specs.Mapping.{Sane, inRange, outputOf, asked, meets, fits, opens, leafWord, tableWord, wants, blocked, mapped}
+use Rattle.mapper_laws.specs.Mapping.{Sane, inRange, outputOf, asked, meets, fits, opens, leafWord, wants, blocked, mapped}
 use Rattle.mapper_laws.proofs.Tests.{not-or-l, not-or-r, not-not}
 use Rattle.mapper_laws.proofs.Leaves.{Serves, leaf-asked}
-use Rattle.mapper_laws.proofs.Spans.{Index, index-of, begins-below, span-pos}
-
-multiple : (n m : ℕ) → n % m ≡ 0 → n / m * m ≡ n
-multiple n m e = let d = div-add-mod' n m in omega arith
+use Rattle.mapper_laws.proofs.Spans.{multiple, index-of, begins-below}
 
 pages : (n : ℕ) → n % 4096 ≡ 0 → n ≡ n / 4096 * 4096
 pages n e = let d = div-add-mod' n 4096 in omega arith

@@ -1,18 +1,18 @@
 -- The promise: where nothing is asked amiss, mapped addresses translate as asked, all others as before, and nothing else changes. Assumes nothing.
 use mathlib.Core.Path.{_≡_, refl, sym, _∙_, ap, subst, fun-ext}
-use mathlib.Core.Logic.{_⊎_, inl, inr, _≢_}
-use mathlib.Core.Bool.{Bool, true, false, not, cond, _&&_, _||_}
+use mathlib.Core.Logic.{inl, inr, _≢_}
+use mathlib.Core.Bool.{Bool, false, not, cond, _&&_}
 use mathlib.Core.List.{List, [], _∷_, _++_}
 use Prim.Native.Nat.{ℕ, zero, suc, _+_, _-_, _*_, _/_, _%_, _^_, _≤_, _<_}
 use native.Mathlib.Omega.{arith}
-use native.Mathlib.Nat.{mod-eq-of-lt, div-add-mod', div-lt-iff-lt-mul, add-mul-div-left, zero-add, le-refl, mod-lt}
+use native.Mathlib.Nat.{mod-eq-of-lt, div-add-mod', add-mul-div-left, zero-add, le-refl}
 use lib.Arith.{digits-div}
 use lib.Dec.{T, leb, ltb, eqb, leb→le, ltb→lt, nltb→le, le→leb, lt→ltb, eqb→eq, lit<}
 use Rattle.laws.proofs.Lists.{and-i, and-l, and-r, T-or-not, T-no, T-true, T-false, neq}
-use Rattle.mapper_rules.specs.Walk.{span, isTable, Translation, Fault, walkFrom, walk, inputTop, topHeight, topTable}
+use Rattle.mapper_rules.specs.Walk.{span, isTable, walkFrom, walk, inputTop, topHeight, topTable}
 use Rattle.mapper_rules.specs.Numbers.{topEntries, topBytes}
 use Rattle.mapper_laws.specs.declared.Mapping.{Mapping}
-use Rattle.mapper_laws.specs.Tree.{Entry, memory, pageOf, leadsTo, joined, sum, some, tables, In, Once}
+use Rattle.mapper_laws.specs.Tree.{Entry, memory, pageOf, joined, sum, some, tables, In, Once}
 use Rattle.mapper_laws.specs.Mapping.{inRange, asked, tableWord, wants, blocked, mapped}
 use Rattle.mapper_laws.specs.Stores.{Stored, steps, store}
 use Rattle.mapper_laws.specs.Promise.{entryAt, topPages, tablesBelow, Outside, before, wanted, inTheWay, after, Fit, Maps}
@@ -23,7 +23,7 @@ use Rattle.mapper_laws.proofs.Again.{once-append, once-joined, apart-on
 use Rattle.mapper_laws.proofs.Determined.{rawOf, raw-leads, determined}
 use Rattle.mapper_laws.proofs.Handed.{slot}
 use Rattle.mapper_laws.proofs.Refines.{tree, Table, Upto, loop, refines}
-use Rattle.mapper_laws.proofs.Translated.{Pages, named, leaf-ends, walkTop, translated}
+use Rattle.mapper_laws.proofs.Translated.{Pages, named, leaf-ends, translated}
 use Rattle.mapper_laws.proofs.Registers.{Top, top-of}
 
 -- a page that is handed out is the page that its word leads to

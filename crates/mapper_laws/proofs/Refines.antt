@@ -1,19 +1,19 @@
 -- The stores make of the words what the mapping makes of the entries, and change nothing else. Assumes nothing.
 use mathlib.Core.Path.{_≡_, refl, sym, _∙_, ap, subst, fun-ext}
-use mathlib.Core.Logic.{_⊎_, inl, inr, _≢_}
-use mathlib.Core.Bool.{Bool, true, false, not, cond, _&&_, _||_}
-use Prim.Native.Nat.{ℕ, zero, suc, _+_, _-_, _*_, _/_, _%_, _^_, _≤_, _<_}
+use mathlib.Core.Logic.{inl, inr, _≢_}
+use mathlib.Core.Bool.{not}
+use Prim.Native.Nat.{ℕ, zero, suc, _+_, _*_, _/_, _%_, _≤_, _<_}
 use native.Mathlib.Omega.{arith}
 use native.Mathlib.Nat.{mod-lt, mod-eq-of-lt}
-use lib.Dec.{T, leb, ltb, eqb, eqb→eq, eqb-refl, lit<, lit≤}
+use lib.Dec.{T, eqb, eqb→eq, eqb-refl, lit<, lit≤}
 use Rattle.mapper_rules.specs.Walk.{span, isTable}
-use Rattle.laws.proofs.Lists.{if, T-or-not, T-true, T-false, T-no, neq}
+use Rattle.laws.proofs.Lists.{if, T-or-not, T-true, T-false, neq}
 use Rattle.mapper_laws.specs.declared.Mapping.{Mapping}
 use Rattle.mapper_laws.specs.Tree.{Entry, Ends, Leads, table, sum, leadsTo}
 use Rattle.mapper_laws.specs.Mapping.{meets, opens, leafWord, tableWord, wants, mapped}
 use Rattle.mapper_laws.specs.Stores.{Stored, put, hand, steps, store}
-use Rattle.mapper_laws.proofs.Apart.{Has, Apart, in-page, same-tree}
-use Rattle.mapper_laws.proofs.Handed.{slot, Between, has-mapped, sum-part}
+use Rattle.mapper_laws.proofs.Apart.{Has, ends-none, Apart, apart-ends, in-page, same-tree}
+use Rattle.mapper_laws.proofs.Handed.{slot, has-mapped, sum-part}
 
 sum-none : (f : ℕ → ℕ) → sum 0 f ≡ 0
 unfolding sum
@@ -303,16 +303,6 @@ module _ (q : Mapping) (page pageOf : ℕ → ℕ) where
     cleared zero word w z = ap Ends z
     cleared (suc h) word w z = ap (leadsTo pageOf word (suc h)) z ∙ refl
 
-    nothing-apart : (h : ℕ) → Apart pageOf h (Ends 0)
-    unfolding Apart
-    nothing-apart zero = tt
-    nothing-apart (suc h) = tt
-
-    nothing-has : (h x p : ℕ) → Has pageOf h (Ends x) p → ⊥
-    unfolding Has
-    nothing-has zero x p g = g
-    nothing-has (suc h) x p g = g
-
     hand-there : (p w : ℕ) (s : Stored) → w / 512 ≢ p → hand p s .word w ≡ s .word w
     hand-there p w s d = elim (T-or-not (eqb (w / 512) p)) [ inl e ↦ absurd (d (eqb→eq (w / 512) p e)) | inr e ↦ rw (T-false (eqb (w / 512) p) e) ]
 
@@ -337,12 +327,12 @@ module _ (q : Mapping) (page pageOf : ℕ → ℕ) where
                 cleared h (begun .word) (512 * free n + j)
                 (put-there i (tableWord (page n)) (512 * free n + j) (hand (free n) s) (λ g. rd .fresh-here n (omega arith) (omega arith) (sym p ∙ ap (λ (y : ℕ). y / 512) g))
                 ∙ hand-here (free n) (512 * free n + j) s p);
-            apart = λ j lt. nothing-apart h;
+            apart = λ j lt. apart-ends pageOf h 0;
             own = λ j lt. in-page (free n) j lt;
-            off = λ j lt x g. nothing-has h 0 x;
-            two = λ k j lk lj d x g. absurd (nothing-has h 0 x g);
+            off = λ j lt x g. ends-none pageOf h 0 x;
+            two = λ k j lk lj d x g. absurd (ends-none pageOf h 0 x g);
             fresh-here = λ k l m g. let z = once k n m (omega arith) g in let y : ⊥ = omega arith in y;
-            fresh-tables = λ k l m j lt. nothing-has h 0 (free k);
+            fresh-tables = λ k l m j lt. ends-none pageOf h 0 (free k);
             room = omega arith;
           }
 
@@ -360,7 +350,7 @@ module _ (q : Mapping) (page pageOf : ℕ → ℕ) where
           u .frame i (λ g. rd .fresh-here n (omega arith) (omega arith) (sym g)) (λ j lt y.
           let part = sum-part 512 (λ k. wants q h (e + k * span h) (blank k)) j lt in
           elim (has-mapped q page pageOf h (e + j * span h) _ (blank j) (i / 512) y) [
-            | inl g ↦ nothing-has h 0 (i / 512) g
+            | inl g ↦ ends-none pageOf h 0 (i / 512) g
             | inr z ↦ rd .fresh-here (z .0) (let l = z .1 in omega arith) (let m = z .2 in omega arith) (sym (z .3))
           ])
           ∙ put-here i (tableWord (page n)) (hand (free n) s) in

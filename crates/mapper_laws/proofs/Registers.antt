@@ -1,14 +1,15 @@
 -- What registers that are not refused come to, by computation over every T0SZ and every SL0. Assumes nothing.
-use mathlib.Core.Path.{_≡_, refl, sym, _∙_, ap}
-use mathlib.Core.Logic.{inl, inr, _≢_}
+use mathlib.Core.Path.{_≡_, sym, _∙_, ap}
+use mathlib.Core.Logic.{inl, inr}
 use mathlib.Core.Bool.{Bool, true, false, not, cond, _&&_, _||_}
-use Prim.Native.Nat.{ℕ, zero, suc, _+_, _-_, _*_, _/_, _%_, _^_, _≤_, _<_}
+use Prim.Native.Nat.{ℕ, zero, suc, _-_, _*_, _/_, _%_, _^_, _≤_, _<_}
 use native.Mathlib.Omega.{arith}
-use native.Mathlib.Nat.{mod-lt, mul-mod-left, mul-assoc, div-add-mod'}
+use native.Mathlib.Nat.{mod-lt, mul-mod-left, mul-assoc}
 use lib.Dec.{T, leb, ltb, eqb, leb→le, eqb→eq, lit<}
-use Rattle.laws.proofs.Lists.{and-l, and-r, T-or-not, T-no, neq}
+use Rattle.laws.proofs.Lists.{and-l, and-r, T-or-not, neq}
 use Rattle.mapper_rules.specs.Walk.{span, inputTop, topHeight, topTable, sl0, t0sz}
 use Rattle.mapper_rules.specs.Numbers.{badLevel, topEntries, topBytes, badRegisters}
+use Rattle.mapper_laws.proofs.Spans.{multiple}
 use Rattle.mapper_laws.proofs.Tests.{not-or-l, not-or-r, not-not}
 
 -- the test holds of all numbers below n
@@ -56,13 +57,10 @@ pub record Top (vttbr vtcr : ℕ) : Type 0 where
   pub holds : 8 * topEntries vtcr ≤ topBytes vtcr
   pub begins : topTable vttbr % 4096 ≡ 0
 
-multiple : (n m : ℕ) → n % m ≡ 0 → n ≡ n / m * m
-multiple n m e = let d = div-add-mod' n m in omega arith
-
 -- a multiple of a multiple
 twice : (a b m : ℕ) → a % b ≡ 0 → b % m ≡ 0 → a % m ≡ 0
 twice a b m e f =
-    ap (λ (y : ℕ). y % m) (multiple a b e ∙ ap (λ (y : ℕ). a / b * y) (multiple b m f) ∙ sym (mul-assoc (a / b) (b / m) m)) ∙ mul-mod-left (a / b * (b / m)) m
+    ap (λ (y : ℕ). y % m) (sym (multiple a b e) ∙ ap (λ (y : ℕ). a / b * y) (sym (multiple b m f)) ∙ sym (mul-assoc (a / b) (b / m) m)) ∙ mul-mod-left (a / b * (b / m)) m
 
 pub top-of : (vttbr vtcr : ℕ) → T (not (badRegisters vttbr vtcr)) → Top vttbr vtcr
 unfolding badRegisters topBytes

@@ -1,6 +1,6 @@
 -- Which entry of a table serves an input. Assumes nothing.
-use mathlib.Core.Path.{_≡_, refl, sym, _∙_, ap}
-use Prim.Native.Nat.{ℕ, zero, suc, _+_, _-_, _*_, _/_, _%_, _^_, _≤_, _<_}
+use mathlib.Core.Path.{_≡_, sym, _∙_, ap}
+use Prim.Native.Nat.{ℕ, suc, _+_, _-_, _*_, _/_, _%_, _^_, _≤_, _<_}
 use native.Mathlib.Omega.{arith}
 use native.Mathlib.Nat.{div-add-mod', mul-add-div-right, div-lt-iff-lt-mul, mod-lt, mul-assoc, mul-add-mod-self-right, mul-mod-left}
 use lib.Pow.{pow-pos, pow-add}
@@ -32,7 +32,7 @@ index-at S u x pos low high =
     let g = mod-lt y pos in
     record { few = mod-lt (x / S) (lit< tt); low = rw d (omega arith); high = rw d (omega arith) }
 
-multiple : (n m : ℕ) → n % m ≡ 0 → n / m * m ≡ n
+pub multiple : (n m : ℕ) → n % m ≡ 0 → n / m * m ≡ n
 multiple n m e = let d = div-add-mod' n m in omega arith
 
 -- e is where the inputs of a table at height h begin

@@ -1,24 +1,23 @@
 -- The whole: after the stores every input of the range is translated as asked, and every other one as before. Words are counted from address 0. Assumes nothing.
 use mathlib.Core.Path.{_≡_, refl, sym, _∙_, ap, subst}
-use mathlib.Core.Logic.{_⊎_, inl, inr, _≢_}
-use mathlib.Core.Bool.{Bool, true, false, not, cond, _&&_, _||_}
-use Prim.Native.Nat.{ℕ, zero, suc, _+_, _-_, _*_, _/_, _%_, _^_, _≤_, _<_}
+use mathlib.Core.Bool.{Bool, true, false, not, cond, _&&_}
+use Prim.Native.Nat.{ℕ, zero, suc, _+_, _*_, _/_, _%_, _^_, _<_}
 use native.Mathlib.Omega.{arith}
 use native.Mathlib.Nat.{mod-mod, mul-mod-left, div-add-mod', mod-lt, div-lt-iff-lt-mul, mul-div-cancel, mul-assoc, zero-add, le-refl}
 use lib.Arith.{digits-mod}
 use lib.Pow.{pow-add}
-use lib.Dec.{T, leb, ltb, eqb, eqb→eq, lit<, lit≤, leb→le, eqb·suc-zero}
-use Rattle.mapper_rules.specs.Walk.{bits, span, Translation, Fault, isTable, isBlock, tableAt, leaf, walkFrom}
-use Rattle.laws.proofs.Lists.{if, and-l, and-r, not-and, T-no, T-or-not, T-true, T-false}
+use lib.Dec.{T, leb, eqb, eqb→eq, lit<, eqb·suc-zero}
+use Rattle.mapper_rules.specs.Walk.{span, Translation, Fault, isTable, isBlock, tableAt, leaf, walkFrom}
+use Rattle.laws.proofs.Lists.{and-r, not-and}
 use Rattle.mapper_laws.specs.declared.Mapping.{Mapping}
 use Rattle.mapper_laws.specs.Tree.{Entry, Ends, Leads, table, memory, pageOf, walkEntry, leadsTo}
-use Rattle.mapper_laws.specs.Mapping.{Sane, inRange, outputOf, asked, meets, fits, opens, leafWord, tableWord, wants, blocked, mapped}
+use Rattle.mapper_laws.specs.Mapping.{Sane, inRange, outputOf, asked, meets, fits, opens, leafWord, tableWord, blocked}
 use Rattle.mapper_laws.specs.Stores.{Stored, steps, store}
 use Rattle.mapper_laws.proofs.Tests.{not-not}
-use Rattle.mapper_laws.proofs.Spans.{span-pos, span-suc}
+use Rattle.mapper_laws.proofs.Spans.{span-pos}
 use Rattle.mapper_laws.proofs.Mapped.{mapped-walk}
 use Rattle.mapper_laws.proofs.Handed.{slot}
-use Rattle.mapper_laws.proofs.Refines.{tree, Table, Upto, after, loop, refines}
+use Rattle.mapper_laws.proofs.Refines.{Table, after, loop, refines}
 
 word-of : (p j : ℕ) → (p * 4096 + 8 * j) / 8 ≡ 512 * p + j
 word-of p j = ap (λ (y : ℕ). y / 8) (let e : p * 4096 + 8 * j ≡ (512 * p + j) * 8 = omega arith in e) ∙ mul-div-cancel (512 * p + j) (lit< tt)

@@ -1,12 +1,12 @@
 -- A list has no number twice if it has none twice in any window of w numbers; and marks tell. Assumes nothing.
 use mathlib.Core.Path.{_≡_, refl, sym, _∙_, ap, subst}
-use mathlib.Core.Logic.{_⊎_, inl, inr, _≢_}
+use mathlib.Core.Logic.{inl, inr}
 use mathlib.Core.Bool.{Bool, true, false, not, cond, _&&_}
 use mathlib.Core.List.{List, [], _∷_, _++_}
-use Prim.Native.Nat.{ℕ, zero, suc, _+_, _-_, _*_, _/_, _%_, _≤_, _<_}
+use Prim.Native.Nat.{ℕ, _+_, _*_, _/_, _<_}
 use native.Mathlib.Omega.{arith}
 use native.Mathlib.Nat.{div-add-mod', mod-lt, div-lt-iff-lt-mul}
-use lib.Dec.{T, leb, ltb, eqb, leb→le, le→leb, ltb→lt, lt→ltb, eqb→eq, eqb-refl}
+use lib.Dec.{T, leb, ltb, eqb, le→leb, lt→ltb, eqb→eq, eqb-refl}
 use Rattle.laws.proofs.Lists.{if, and-l, and-r, and-i, T-no, T-or-not, T-true, T-false}
 use Rattle.mapper_laws.specs.Tree.{In, Once}
 use Rattle.mapper_laws.specs.Marks.{inWindow, part, Marks, marking, fine, marks}

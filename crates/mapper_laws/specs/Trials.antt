@@ -1,6 +1,6 @@
 -- Maps of some words, as one table: the registers, the words before, the pages to be handed out, what is mapped, and words afterwards.
 -- proofs/Trials.antt has the one claim about it. Assumes nothing.
-use mathlib.Core.Bool.{Bool, true, false, cond}
+use mathlib.Core.Bool.{true, false}
 use mathlib.Core.List.{List, [], _∷_, map}
 use Prim.Native.Nat.{ℕ, _+_, _*_, _/_}
 use Rattle.mapper_rules.specs.Ledger.{Word, wordAt}
