@@ -1,0 +1,2 @@
+-- Words cleared one after another.
+pub mod Clearing

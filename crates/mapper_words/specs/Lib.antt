@@ -1,0 +1,2 @@
+-- What the contracts cite beside the walk and the mapping.
+pub mod Heights
