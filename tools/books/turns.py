@@ -1,0 +1,69 @@
+"""Calls and answers by turns: number, text, call and answer of each line or block, from whatever gives the answers."""
+import subprocess
+from pathlib import Path
+
+import answers
+from calls import parse
+from reading import Unreadable
+
+ROOT = Path(__file__).resolve().parents[2]
+PROGRAM = (ROOT / "tools" / "program", "--as", "run", "script")
+
+
+class Unanswered(Exception):
+    """The program did not come to its end; what it said stands on standard error."""
+
+
+def by_program(held, program=PROGRAM):
+    """The proved program's answers, at last to a listing in a line of its own behind the others. An empty line is `bad` to it."""
+    held.file.write("l\n")
+    held.file.flush()
+    held.file.seek(0)
+    with subprocess.Popen(program, stdin=held.file, stdout=subprocess.PIPE, encoding="latin-1") as running:
+        answered = answers.taken(line[:-1] for line in running.stdout)
+        for number, text in enumerate(_reread(held), 1):
+            answer = next(answered, None)
+            if answer is None:
+                break
+            if text:
+                yield number, text, parse(text), answer
+        else:
+            answer = next(answered, None)
+            if running.wait() == 0 and answer is None:
+                return
+    raise Unanswered("the program's answers are not one for each line")
+
+
+def _reread(held):
+    """By another descriptor, since the program moves on the one that it shares."""
+    with open(f"/proc/self/fd/{held.file.fileno()}", encoding="latin-1", newline="\n") as again:
+        for text in again:
+            yield text[:-1]
+
+
+def by_log(held, log):
+    """A box's answers, one a line of the calls, or one a line that has something in it."""
+    every = log.calls == held.count
+    answered = answers.taken(log.texts())
+    for number, text in enumerate(held.texts(), 1):
+        if not text and not every:
+            continue
+        answer = next(answered, None)
+        if answer is None:
+            return
+        if text:
+            yield number, text, parse(text), answer
+
+
+def counts_differ(held, log):
+    """In words; None where each call has its answer."""
+    if log.calls in (held.count, held.calls):
+        return None
+    return f"there are {held.calls} calls and {log.calls} answers"
+
+
+def by_journal(held):
+    for index, text in enumerate(held.texts()):
+        line, number = text.rsplit(" ", 1)
+        call = parse(line)
+        yield index, line, call, answers.recorded(call.kind, int(number))
