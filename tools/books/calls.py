@@ -56,7 +56,9 @@ def covered(call, address):
 
 
 def widened(call):
-    """The bytes of an `r`, at both ends to multiples of 2^ORDER."""
+    """The bytes of an `r`, at both ends to multiples of 2^ORDER; no bytes are not widened."""
+    if call.size == 0:
+        return call.start, call.start
     unit = 1 << min(call.order, HIGHEST_ORDER)
     return call.start // unit * unit, -(-(call.start + call.size) // unit) * unit
 

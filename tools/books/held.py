@@ -82,6 +82,8 @@ def journal_of(source, progress):
 
 def read(name, reader):
     """What `reader` makes of a file of bytes; `-` is standard input."""
+    if not name:
+        raise Unreadable("the name of the file is empty")
     shown = "standard input" if name == "-" else name
     try:
         with sys.stdin.buffer if name == "-" else open(name, "rb") as source:

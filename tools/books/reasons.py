@@ -2,6 +2,7 @@
 import re
 
 from calls import MOST, NUMBERS, senseless, widened
+from words import counted
 
 LARGE_NUMBER = re.compile("[1-9][0-9]*")
 
@@ -35,7 +36,7 @@ def _too_few(book, call):
     if call.kind == "f":
         return None
     if call.size > book.total:
-        return f"{call.size} bytes are wanted, and {_total(book)}"
+        return f"{counted(call.size, 'byte')} {'is' if call.size == 1 else 'are'} wanted, and {_total(book)}"
     if call.kind == "a":
         return _no_fit(book, call)
     first, past = widened(call)

@@ -4,7 +4,7 @@ from pathlib import Path
 
 import answers
 from calls import parse
-from reading import Unreadable
+from words import counted
 
 ROOT = Path(__file__).resolve().parents[2]
 PROGRAM = (ROOT / "tools" / "program", "--as", "run", "script")
@@ -59,7 +59,7 @@ def counts_differ(held, log):
     """In words; None where each call has its answer."""
     if log.calls in (held.count, held.calls):
         return None
-    return f"there are {held.calls} calls and {log.calls} answers"
+    return f"There {'is' if held.calls == 1 else 'are'} {counted(held.calls, 'call')}, and {counted(log.calls, 'answer')}."
 
 
 def by_journal(held):
