@@ -6,27 +6,21 @@ from calls import TOP
 from reading import Unreadable
 
 NUMBER = "(0|[1-9][0-9]{0,19})"
-OK, NO, LIST, RANGE = (re.compile(form) for form in (f"ok {NUMBER}", "no ([1-4])", f"list {NUMBER} {NUMBER}", f"{NUMBER} {NUMBER}"))
+OK, LIST, RANGE = (re.compile(form) for form in (f"ok {NUMBER}", f"list {NUMBER} {NUMBER}", f"{NUMBER} {NUMBER}"))
 
 # kind: ok, no, bad, list, or odd for one that no call gets; value: an address, the number of a refusal, a total; ranges: of a list,
 # as pairs of the first byte and the one after the last
 Answer = namedtuple("Answer", "kind value ranges")
 DONE, BAD = Answer("ok", None, None), Answer("bad", None, None)
-REFUSED = {f"no {number}": Answer("no", number, None) for number in range(1, 5)}
+REFUSED = {number: Answer("no", number, None) for number in range(1, 5)}
+FIXED = {"ok\n": DONE, "bad\n": BAD, **{f"no {number}\n": answer for number, answer in REFUSED.items()}}
 
 
 def taken(lines):
-    """The answers of these lines, those of a listing together."""
+    """The answers of these lines, each with its end; those of a listing together."""
     lines = iter(lines)
-    for text in lines:
-        if text == "ok":
-            yield DONE
-        elif text in REFUSED:
-            yield REFUSED[text]
-        elif text == "bad":
-            yield BAD
-        else:
-            yield _with_numbers(text, lines)
+    for line in lines:
+        yield FIXED.get(line) or _with_numbers(line.rstrip("\n"), lines)
 
 
 def _with_numbers(text, lines):
@@ -43,9 +37,9 @@ def _ranges(count, lines):
     ranges = []
     for _ in range(count):
         text = next(lines, None)
-        form = RANGE.fullmatch(text) if text is not None else None
+        form = RANGE.fullmatch(text.rstrip("\n")) if text is not None else None
         if not form:
-            found = "its end comes" if text is None else f"there is {text}"
+            found = "its end comes" if text is None else f"there is {text.rstrip()}"
             raise Unreadable(f"has a listing of {count} ranges, and after {len(ranges)} of them {found}")
         ranges.append((int(form[1]), int(form[2]) + 1))
     return ranges
@@ -54,7 +48,7 @@ def _ranges(count, lines):
 def recorded(kind, number):
     """The answer of a signed number, as the C calls give it."""
     if -4 <= number < 0:
-        return REFUSED[f"no {-number}"]
+        return REFUSED[-number]
     if kind == "a" and 0 <= number < TOP:
         return Answer("ok", number, None)
     return DONE if number == 0 else Answer("odd", number, None)

@@ -1,7 +1,7 @@
 """The book that the vouchers keep: each accepted call as it comes, and what it may cover."""
 from collections import namedtuple
 
-from calls import TOP, covered, senseless
+from calls import HIGHEST_ORDER, TOP, senseless
 from pieces import Pieces
 from ranges import Ranges
 
@@ -42,18 +42,16 @@ class Book:
         """An `f` no free byte, an `a` or `r` free ones alone."""
         return not self.free.has_any(first, past) if call.kind == "f" else self.free.has_all(first, past)
 
-    def wrong(self, call, address):
-        """Why an accepted call must not have been; None where it may."""
+    def wrong(self, call, first, past):
+        """Why an accepted call must not have been, with the bytes that it covers; None where it may."""
+        if first < past <= TOP and call.order <= HIGHEST_ORDER and self.may_cover(call, first, past):
+            is_off = call.kind == "a" and first & ((1 << call.order) - 1)
+            return f"{self.words.address(first)} is no multiple of 2^{call.order}" if is_off else None
         never = senseless(call)
         if never:
             return never
-        first, past = covered(call, address)
-        if call.kind == "a" and past > TOP:
+        if past > TOP:
             return f"{self.words.bytes(first, past)} pass the last address"
-        if call.kind == "a" and address % (1 << call.order):
-            return f"{self.words.address(address)} is no multiple of 2^{call.order}"
-        if self.may_cover(call, first, past):
-            return None
         return self.named(first, past, is_free=call.kind == "f", are="were")
 
     def summed(self):

@@ -43,8 +43,8 @@ class Desk:
 
     def _accepted(self, number, text, call, answer):
         self.listed = None
-        fault = self.book.wrong(call, answer.value)
         first, past = covered(call, answer.value)
+        fault = self.book.wrong(call, first, past)
         self.book.accept(number, call, first, past)
         change = past - first if call.kind == "f" else first - past
         if fault:

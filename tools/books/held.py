@@ -37,11 +37,10 @@ class Held:
         self.longest = max(self.longest, *map(len, block.split("\n")))
         self.digits = max(self.digits, *map(len, block.split()))
 
-    def texts(self):
-        """The lines again, from the first."""
+    def lines(self):
+        """The lines again, from the first, each with its end."""
         self.file.seek(0)
-        for text in self.file:
-            yield text[:-1]
+        return self.file
 
 
 def calls_or_journal_of(source, progress):
@@ -64,7 +63,7 @@ def answers_of(source, progress):
     for text, are_calls in blocks(source, held.tally):
         if text:
             (held.put_all if are_calls else held.put)(text)
-    held.calls = sum(1 for _ in answers.taken(held.texts()))
+    held.calls = sum(1 for _ in answers.taken(held.lines()))
     return held
 
 

@@ -7,8 +7,9 @@ from words import counted
 
 LONGEST = 4096  # bytes of a line; a longer one is no call, and what it has beyond a block of lines is passed over
 BLOCK = 1 << 16
-SHORT = b"(?:0|[1-9][0-9]{0,18})"  # surely below 2^64
-PLAIN = re.compile(b"(?:(?:[fa] %b %b|r %b %b %b|l)\n)*" % ((SHORT,) * 5))
+SHORT = "(?:0|[1-9][0-9]{0,18})"  # surely below 2^64
+PLAIN_LINE = re.compile(f"(?:[fa] {SHORT} {SHORT}|r {SHORT} {SHORT} {SHORT}|l)")
+PLAIN = re.compile(f"(?:{PLAIN_LINE.pattern}\n)*".encode())
 HEXADECIMAL = re.compile("0[xX][0-9a-fA-F]+")
 MARK = b"\xef\xbb\xbf"
 UTF_16 = (b"\xff\xfe", b"\xfe\xff")
@@ -65,7 +66,7 @@ def blocks(source, tally):
             continue
         for raw in block.removesuffix(b"\n").split(b"\n"):
             text = raw.decode("latin-1")
-            yield text if parse(text) else cleaned(text, number, tally), False
+            yield text if PLAIN_LINE.fullmatch(text) else cleaned(text, number, tally), False
             number += 1
 
 
@@ -90,6 +91,8 @@ def _unmarked(raw, tally):
 
 def cleaned(text, number, tally):
     """A line without what is read leniently."""
+    if parse(text):
+        return text
     if len(text) > LONGEST and "#" not in text:
         return shown(text)
     if text.endswith("\r"):

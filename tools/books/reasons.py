@@ -7,12 +7,6 @@ from words import counted
 LARGE_NUMBER = re.compile("[1-9][0-9]*")
 
 
-def refused(book, call, number):
-    """The reason for a refusal of this number; None where the vouchers show none."""
-    reason = {1: _no_entry, 2: _damaged, 3: _too_few, 4: _senseless_or_elsewhere}.get(number)
-    return reason(book, call) if reason else None
-
-
 def _damaged(book, call):
     return "the book itself is damaged: stop, and call the hypervisor's author"
 
@@ -69,6 +63,14 @@ def _senseless_or_elsewhere(book, call):
     if book.may_cover(call, first, past):
         return None
     return book.named(first, past, is_free=call.kind == "f", are="are")
+
+
+REASONS = {1: _no_entry, 2: _damaged, 3: _too_few, 4: _senseless_or_elsewhere}
+
+
+def refused(book, call, number):
+    """The reason for a refusal of this number; None where the vouchers show none."""
+    return REASONS[number](book, call)
 
 
 def no_call(text):

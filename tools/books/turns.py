@@ -19,33 +19,30 @@ def by_program(held, program=PROGRAM):
     held.file.write("l\n")
     held.file.flush()
     held.file.seek(0)
-    with subprocess.Popen(program, stdin=held.file, stdout=subprocess.PIPE, encoding="latin-1") as running:
-        answered = answers.taken(line[:-1] for line in running.stdout)
-        for number, text in enumerate(_reread(held), 1):
-            answer = next(answered, None)
-            if answer is None:
-                break
+    number = 0
+    with subprocess.Popen(program, stdin=held.file, stdout=subprocess.PIPE, encoding="latin-1") as running, _again(held) as lines:
+        answered = answers.taken(running.stdout)
+        for number, (line, answer) in enumerate(zip(lines, answered), 1):
+            text = line[:-1]
             if text:
                 yield number, text, parse(text), answer
-        else:
-            answer = next(answered, None)
-            if running.wait() == 0 and answer is None:
-                return
+        is_whole = number == held.count + 1 and next(answered, None) is None
+        if running.wait() == 0 and is_whole:
+            return
     raise Unanswered("the program's answers are not one for each line")
 
 
-def _reread(held):
-    """By another descriptor, since the program moves on the one that it shares."""
-    with open(f"/proc/self/fd/{held.file.fileno()}", encoding="latin-1", newline="\n") as again:
-        for text in again:
-            yield text[:-1]
+def _again(held):
+    """What is held by another descriptor, since the program moves on the one that it shares."""
+    return open(f"/proc/self/fd/{held.file.fileno()}", encoding="latin-1", newline="\n")
 
 
 def by_log(held, log):
     """A box's answers, one a line of the calls, or one a line that has something in it."""
     every = log.calls == held.count
-    answered = answers.taken(log.texts())
-    for number, text in enumerate(held.texts(), 1):
+    answered = answers.taken(log.lines())
+    for number, line in enumerate(held.lines(), 1):
+        text = line[:-1]
         if not text and not every:
             continue
         answer = next(answered, None)
@@ -63,7 +60,7 @@ def counts_differ(held, log):
 
 
 def by_journal(held):
-    for index, text in enumerate(held.texts()):
-        line, number = text.rsplit(" ", 1)
-        call = parse(line)
-        yield index, line, call, answers.recorded(call.kind, int(number))
+    for index, line in enumerate(held.lines()):
+        text, number = line.rsplit(" ", 1)
+        call = parse(text)
+        yield index, text, call, answers.recorded(call.kind, int(number))
