@@ -1,11 +1,12 @@
 """Random files of a small memory: the command's books against the bytes counted one by one, over the proved program's answers."""
 import random
 
-from ground import answered, books
 from brute import BYTES, Brute, by_turns
+from ground import answered, books, pieces
 
-FILES = 3000
+FILES, FEW = 3000, 200
 LINES = 24
+GROUPS = (1, 2, 512)  # of pieces, small ones too: a small memory has few
 
 
 def call(rng):
@@ -30,6 +31,7 @@ def written(rng, line):
 def problem(words, seed):
     """What is wrong with the books of one file; None where they are those of the bytes."""
     rng = random.Random(seed)
+    pieces.GROUP = rng.choice(GROUPS)
     file = [written(rng, call(rng)) for _ in range(rng.randrange(LINES))]
     given = "".join(text + "\n" for text, _ in file).encode()
     calls = {number: meant for number, (_, meant) in enumerate(file, 1) if meant is not None}
@@ -64,8 +66,8 @@ def compared(desk, entries, brute, due):
     return None
 
 
-def cases(words, files=FILES):
+def cases(words, is_few=False):
     """Groups of a hundred files."""
-    for begin in range(0, files, 100):
-        wrong = next(filter(None, (problem(words, seed) for seed in range(begin, min(begin + 100, files)))), None)
+    for begin in range(0, FEW if is_few else FILES, 100):
+        wrong = next(filter(None, (problem(words, seed) for seed in range(begin, begin + 100))), None)
         yield f"random files {begin} to {begin + 99}", wrong

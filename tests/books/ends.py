@@ -113,7 +113,7 @@ def progressing(_):
         yield f"progress {'at a' if is_one else 'without a'} terminal", None if terminal.text == due else f"it is {terminal.text!r}"
 
 
-def cases(words):
+def cases(words, is_few=False):
     for group in (asked_wrongly, named_like_words, unreadable, unwritable, far_and_empty, false_programs, progressing):
         with Folder() as folder:
             yield from group(folder)

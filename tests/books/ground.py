@@ -14,6 +14,7 @@ RUN = PROJECT / "run"
 sys.path.insert(0, str(PROJECT / "tools" / "books"))
 
 import held
+import pieces
 import turns
 from desk import Desk
 from progress import Progress

@@ -50,7 +50,7 @@ JUDGED = [
 ]
 
 
-def cases(words):
+def cases(words, is_few=False):
     with Folder() as folder:
         answers = answered(words, CALLS)
         file = folder.write("journal", journal(*((call, signed(answer)) for call, answer in zip(CALLS, answers))))

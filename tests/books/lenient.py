@@ -29,7 +29,7 @@ BAD = [
 ]
 
 
-def cases(words):
+def cases(words, is_few=False):
     with Folder() as folder:
         for name, (given, sayings) in READ.items():
             ended = run("books", folder.write("calls", given))

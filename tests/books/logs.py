@@ -5,7 +5,7 @@ from brute import Brute, by_turns
 from chance import call
 from ground import Folder, answered, held_to, judged, run
 
-FILES = 1500
+FILES, FEW = 1500, 200
 LINES = 20
 
 # calls, answers, the end, what is printed
@@ -77,11 +77,11 @@ def problem(words, seed):
     return f"seed {seed}: named are the lines {sorted(named)}, and wrong are {sorted(due)}\n  {texts}"
 
 
-def cases(words, files=FILES):
+def cases(words, is_few=False):
     with Folder() as folder:
         for name, calls, answers, status, out in LOGS:
             ended = run("check", folder.write("calls", calls), folder.write("answers", answers))
             yield held_to(name, ended, status, out, "")
-    for begin in range(0, files, 100):
+    for begin in range(0, FEW if is_few else FILES, 100):
         wrong = next(filter(None, (problem(words, seed) for seed in range(begin, begin + 100))), None)
         yield f"random logs {begin} to {begin + 99}", wrong

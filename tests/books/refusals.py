@@ -40,7 +40,7 @@ SENTENCES = [
 ]
 
 
-def cases(words):
+def cases(words, is_few=False):
     for calls, number, answer, sentence in SENTENCES:
         _, entries, _ = books(words, calls.replace("|", "\n").encode() + b"\n")
         entry = entries[number - 1]

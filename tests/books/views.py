@@ -117,7 +117,7 @@ def in_a_browser(folder):
     yield "printed on A4", None if is_right else f"the sheets are {sheets}"
 
 
-def cases(words):
-    for group in (made, long_and_sparse, in_a_browser):
+def cases(words, is_few=False):
+    for group in (made, long_and_sparse) if is_few else (made, long_and_sparse, in_a_browser):
         with Folder() as folder:
             yield from group(folder)
