@@ -58,6 +58,8 @@ def compared(desk, entries, brute, due):
             return f"line {entry.number} has the reason {entry.reason}"
     last = [None] * BYTES
     for first, past, voucher in desk.book.pieces.all():
+        if first >= past:
+            return f"there is a piece of no bytes, from {first} on"
         last[first:past] = [tuple(voucher)] * (past - first)
     if last != brute.last:
         return f"the last vouchers are {last}, and should be {brute.last}"
