@@ -66,6 +66,10 @@ def unwritable(folder):
 
 def far_and_empty(folder):
     yield held_to("an empty file", run("books", folder.write("calls", b"")), 0, r"line .*There is no call in it\.\nThe books close: .* 0 bytes are free\.\n", "")
+    marked = run("books", folder.write("calls", b"\xef\xbb\xbf"))
+    yield held_to("a byte-order mark alone", marked, 0, r"Read differently: a byte-order mark .*There is no call in it\.\n.*", "")
+    yield held_to("comments alone", run("books", folder.write("calls", "# a|# b")), 0, r"Read differently: .*There is no call in it\.\n.*", "")
+    yield held_to("an empty log", run("check", folder.write("calls", b""), folder.write("log", b"")), 0, r"There is no call in it\.\nThe books close: .*", "")
     yield held_to("/dev/null", run("books", "/dev/null"), 0, r"line .*The books close: .*", "")
     yield held_to("from standard input", run("books", "-", given=b"f 0 8\n"), 0, r"line .* 8 bytes are free, in 1 range\.\n", "")
     whole = folder.write("calls", "f 0 9223372036854775808|l")

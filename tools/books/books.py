@@ -21,7 +21,7 @@ def books(options, out):
     progress = Progress()
     held, is_recorded = read(name, lambda source: calls_or_journal_of(source, progress))
     desk = Desk(Words(options.is_hex, "block" if is_recorded else "line"))
-    window = Window(held.calls)
+    window = Window(held.calls) if options.pages else None
     enter_all(desk, held, is_recorded, window, out, progress)
     do_close, sentence = closing(desk)
     said = [refusals(desk), sentence]
@@ -48,10 +48,12 @@ def enter_all(desk, held, is_recorded, window, out, progress):
     out.write(report.head())
     progress.what = "entered"
     for number, text, call, answer in turns.by_journal(held) if is_recorded else turns.by_program(held):
-        window.before(desk)
+        if window:
+            window.before(desk)
         entry = desk.enter(number, text, call, answer)
         if number <= held.count or entry.faults:
-            window.after(entry)
+            if window:
+                window.after(entry)
             out.write(report.entry(entry))
         if number % EVERY == 0:
             progress.at(number)

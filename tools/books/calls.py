@@ -1,6 +1,7 @@
 """A call, and the bytes that it covers once it is accepted."""
 import re
 from collections import namedtuple
+from functools import lru_cache
 
 TOP = 2**63  # addresses lie below
 MOST = 2**64  # and numbers below that
@@ -14,6 +15,7 @@ Call = namedtuple("Call", "kind start size order")  # 0 where a call has no such
 LISTING = Call("l", 0, 0, 0)
 
 
+@lru_cache(8192)  # the same lines come again and again
 def parse(text):
     """The call of a line, as the program reads one; None for any other line."""
     if not FORM.fullmatch(text):

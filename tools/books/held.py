@@ -1,11 +1,14 @@
 """What was read, held in a file that has no name, line by line: it is read again beside its answers, and memory holds none of it."""
 import sys
 import tempfile
+from itertools import islice
 
 import answers
 import journal
 from calls import text_of
 from reading import Tally, Unreadable, blocks
+
+TOGETHER = 4096  # blocks of a journal
 
 
 class Held:
@@ -18,24 +21,15 @@ class Held:
         self.longest, self.digits = 4, 1  # of a line, and of a number
         self.fault = None
 
-    def put(self, text):
-        """A line."""
-        self.file.write(text + "\n")
-        self.count += 1
-        self.calls += text != ""
-        self.progress.at(self.count)
-        self.longest = max(self.longest, len(text))
-        self.digits = max(self.digits, *map(len, text.split(" ")))
-
-    def put_all(self, block):
-        """Lines that are calls, each with its end."""
+    def put(self, block):
+        """Lines, each with its end."""
         self.file.write(block)
-        count = block.count("\n")
-        self.count += count
-        self.calls += count
+        lines = block.split("\n")[:-1]
+        self.count += len(lines)
+        self.calls += len(lines) - lines.count("")
+        self.longest = max(self.longest, max(map(len, lines)))
+        self.digits = max(self.digits, max(map(len, block.split()), default=1))
         self.progress.at(self.count)
-        self.longest = max(self.longest, *map(len, block.split("\n")))
-        self.digits = max(self.digits, *map(len, block.split()))
 
     def lines(self):
         """The lines again, from the first, each with its end."""
@@ -52,17 +46,18 @@ def calls_or_journal_of(source, progress):
 def calls_of(source, progress):
     """The calls of a file."""
     held = Held(progress)
-    for text, are_calls in blocks(source, held.tally):
-        (held.put_all if are_calls else held.put)(text)
+    for block in blocks(source, held.tally):
+        held.put(block)
     return held
 
 
 def answers_of(source, progress):
     """The lines of a box's answers that have something in them, and how many answers they are."""
     held = Held(progress)
-    for text, are_calls in blocks(source, held.tally):
-        if text:
-            (held.put_all if are_calls else held.put)(text)
+    for block in blocks(source, held.tally):
+        written = "".join(line + "\n" for line in block.split("\n") if line)
+        if written:
+            held.put(written)
     held.calls = sum(1 for _ in answers.taken(held.lines()))
     return held
 
@@ -71,11 +66,17 @@ def journal_of(source, progress):
     """Each block as a line: its call, and the number that it records."""
     held = Held(progress)
     source.read(len(journal.VERSION))
-    try:
-        for _, call, number in journal.blocks(source):
-            held.put(f"{text_of(call)} {number}")
-    except journal.Faulty as fault:
-        held.fault = fault
+    recorded = journal.blocks(source)
+    while not held.fault:
+        lines = []
+        try:
+            for _, call, number in islice(recorded, TOGETHER):
+                lines.append(f"{text_of(call)} {number}\n")
+        except journal.Faulty as fault:
+            held.fault = fault
+        if not lines:
+            break
+        held.put("".join(lines))
     return held
 
 

@@ -50,24 +50,28 @@ class Tally:
 
 
 def blocks(source, tally):
-    """The lines as text, many at a time, and whether all of them are calls as they stand; else one at a time and cleaned, an empty one
-    where there is nothing to answer."""
-    number, is_first = 1, True
+    """The lines as text, many at a time, each with its end: cleaned, and empty where there is nothing to answer."""
+    number = 1
     while True:
         block = source.read(BLOCK)
         if not block:
             return
         block += _rest_of_line(source) if block[-1:] != b"\n" else b""
-        if is_first:
-            block, is_first = _unmarked(block, tally), False
+        if number == 1:
+            block = _unmarked(block, tally)
+        if not block:
+            return
         if PLAIN.fullmatch(block):
-            number += block.count(b"\n")
-            yield block.decode("ascii"), True
-            continue
-        for raw in block.removesuffix(b"\n").split(b"\n"):
-            text = raw.decode("latin-1")
-            yield text if PLAIN_LINE.fullmatch(text) else cleaned(text, number, tally), False
-            number += 1
+            text = block.decode("ascii")
+        else:
+            lines = block.removesuffix(b"\n").decode("latin-1").split("\n")
+            text = "".join(_line(line, at, tally) + "\n" for at, line in enumerate(lines, number))
+        number += text.count("\n")
+        yield text
+
+
+def _line(text, number, tally):
+    return text if PLAIN_LINE.fullmatch(text) else cleaned(text, number, tally)
 
 
 def _rest_of_line(source):

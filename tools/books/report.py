@@ -1,5 +1,6 @@
 """The books as text: a row a voucher, the bytes by their last voucher, both sums, and a closing sentence."""
 from answers import text_of as answer_text
+from calls import TOP
 from calls import text_of as call_text
 from words import counted
 
@@ -10,9 +11,10 @@ class Report:
     def __init__(self, words, held):
         self.words = words
         self.number = max(len(words.noun), len(str(held.count)))
-        address = 2 + len(hex(10 ** held.digits)) if words.is_hex else held.digits
-        call = held.longest + 3 if words.is_hex else held.longest
-        self.covers, self.total = 2 * address + 4, max(5, held.digits)
+        digits = min(held.digits, len(str(TOP)))
+        address = len(words.address(min(10**digits, TOP) - 1))
+        call = held.longest + max(0, address - digits)
+        self.covers, self.total = max(7, 2 * address + 4), max(5, digits)
         self.row = f"%{self.number}s  %-{call}s  %-{max(6, 3 + address)}s  %-{self.covers}s  %{1 + self.total}s  %{self.total}s\n"
 
     def head(self):
