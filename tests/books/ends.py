@@ -19,7 +19,7 @@ def shell(text):
 
 def asked_wrongly(folder):
     calls = folder.write("calls", "f 0 8")
-    for words in (["books"], ["books", calls, calls], ["check", calls], ["check", calls, calls, calls], ["books", calls, "--no"], ["books", calls, "--html"]):
+    for words in (["books"], ["books", calls, calls], ["check", calls], ["check", calls, calls, calls], ["books", calls, "--no"], ["books", calls, "--html"], ["books", calls, "--svg", "-"]):
         yield held_to(" ".join(map(str, words)), run(*words), 2, "", rf"run: .*\n{USAGE}")
     yield held_to("--help", run("books", "--help"), 0, USAGE, "")
     yield held_to("both from standard input", run("check", "-", "-"), 2, "", r"run: standard input cannot be both the calls and the answers\n")
@@ -61,6 +61,10 @@ def unwritable(folder):
         yield held_to(f"a page at {place}", ended, 2, r"line .*The books close: .*", rf"run: .* cannot be written: {reason}\n")
     many = folder.write("many", "f 0 8|" + "|".join(["f 0 8"] * 20000))
     yield held_to("whoever has seen enough", shell(f"set -o pipefail; '{RUN}' books '{many}' | head -n 1"), 141, r" *line .*\n", "")
+    yield held_to("no place to hold what is read", shell(f"ulimit -f 8; '{RUN}' books '{many}'"), 2, "", r"run: a file in .* cannot be written: File too large\n")
+    strange = folder.write(os.fsdecode(b"\xff\xfe.txt"), "f 0 8\r")
+    yield held_to("a name of any bytes", run("check", strange, folder.write("log", "ok"), "--hex"), 0, r"Read differently in .*\.txt: .*The books close: .*", "")
+    yield held_to("its page", run("books", strange, "--html", folder / "page"), 0, r".*The books close: .*", "")
     yield held_to("standard error closed", shell(f"'{RUN}' books '{folder / 'none'}' 2>&-"), 2, "", "")
 
 

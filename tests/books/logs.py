@@ -31,6 +31,8 @@ LOGS = [
     ("an answer of another call", "f 0 2|a 1 0", "ok 4|ok", 2, r"line 1, f 0 2: no such call is answered so\nline 2, a 1 0: no such call is answered so\n.*"),
     ("comments that were answered too", "# begin|f 0 2|f 0 2", "bad|ok|no 4", 1, r"Read differently in .*Of 2 lines 1 was refused.*close:.*"),
     ("comments that were not", "# begin|f 0 2|f 0 2", "ok|no 4", 1, r"Read differently in .*Of 2 lines 1 was refused.*close:.*"),
+    ("a refusal that nothing explains", "f 0 8|a 8 0", "ok|no 3", 1, r"line 2, a 8 0: answered no 3, and the vouchers do not show why\nOf 2 .*close: .*"),
+    ("a box that reads strictly", "f\t0 8|f 0 8", "bad|ok", 1, r"Read .*line 1, f 0 8: answered bad, and the line can be read as a call\nOf 2 .*close: .*"),
     ("hexadecimal answers", "f 0x10 0x10|a 0x8 0|l", "ok|ok 0x10|list 1 0x8|0x18 0x1f", 0, r"Read differently in .*The books close: .*"),
 ]
 

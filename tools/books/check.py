@@ -1,6 +1,7 @@
 """`./run check CALLS ANSWERS`: a box's answers, judged by its own vouchers alone."""
 import turns
-from desk import Desk
+from answers import text_of
+from desk import UNEXPLAINED, UNREAD, Desk
 from held import answers_of, calls_of, read
 from progress import EVERY, Progress
 from reading import Unreadable
@@ -20,8 +21,8 @@ def check(options, out):
     progress.what = "judged"
     for number, text, call, answer in turns.by_log(held, answered):
         entry = desk.enter(number, text, call, answer)
-        for fault in entry.faults:
-            out.write(f"line {number}, {text}: {fault}\n")
+        for said in entry.faults or remarks(entry):
+            out.write(f"line {number}, {text}: {said}\n")
         if number % EVERY == 0:
             progress.at(number)
     progress.end()
@@ -31,6 +32,12 @@ def check(options, out):
     do_close, sentence = closing(desk)
     out.write(f"{refusals(desk)}\n{sentence}\n")
     return FAILED if differ or not do_close else REFUSED if desk.refused else CLOSES
+
+
+def remarks(entry):
+    """What is no fault, and still odd."""
+    if entry.reason in (UNEXPLAINED, UNREAD):
+        yield f"answered {text_of(entry.answer)}, and {entry.reason}"
 
 
 def _read(name, reader, progress, out):

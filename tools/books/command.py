@@ -32,7 +32,7 @@ class Options:
                 self.is_hex = True
             elif word in ("--html", "--svg"):
                 self.pages[word] = next(words, "")
-                if not self.pages[word]:
+                if self.pages[word] in ("", "-"):
                     raise Misused(f"{word} wants the name of a file")
             elif word.startswith("-") and word != "-":
                 raise Misused(f"there is no option {word}")
@@ -41,6 +41,7 @@ class Options:
 
 
 def main(arguments):
+    sys.stdout.reconfigure(errors="backslashreplace")  # the name of a file may be any bytes
     out = Output(sys.stdout)
     try:
         return asked(arguments, out)

@@ -11,6 +11,8 @@ from calls import covered
 # total, which follows; reason: of a refusal or of a bad line, in words; faults: what must not be, in words
 Entry = namedtuple("Entry", "number text call answer first past change total reason faults")
 
+UNEXPLAINED, UNREAD = "the vouchers do not show why", "the line can be read as a call"
+
 
 class Desk:
     def __init__(self, words):
@@ -38,8 +40,8 @@ class Desk:
         if call is None:
             return reasons.no_call(text)
         if answer.kind == "bad":
-            return "answered so, though the line can be read as a call"
-        return reasons.refused(self.book, call, answer.value) or "the vouchers do not show why"
+            return UNREAD
+        return reasons.refused(self.book, call, answer.value) or UNEXPLAINED
 
     def _accepted(self, number, text, call, answer):
         self.listed = None

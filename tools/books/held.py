@@ -1,21 +1,33 @@
 """What was read, held in a file that has no name, line by line: it is read again beside its answers, and memory holds none of it."""
 import sys
 import tempfile
+from contextlib import contextmanager
 from itertools import islice
 
 import answers
 import journal
 from calls import text_of
+from output import Unwritten
 from reading import Tally, Unreadable, blocks
 
 TOGETHER = 4096  # blocks of a journal
+
+
+@contextmanager
+def _written():
+    """A failure here is none of what is read."""
+    try:
+        yield
+    except OSError as error:
+        raise Unwritten(f"a file in {tempfile.gettempdir()} cannot be written: {error.strerror}") from None
 
 
 class Held:
     """`count` is of lines, `calls` of those that have something in them; `tally` what was read differently; `fault` of a journal."""
 
     def __init__(self, progress):
-        self.file = tempfile.TemporaryFile("w+", encoding="latin-1", newline="\n")
+        with _written():
+            self.file = tempfile.TemporaryFile("w+", encoding="latin-1", newline="\n")
         self.progress, self.tally = progress, Tally()
         self.count = self.calls = 0
         self.longest, self.digits = 4, 1  # of a line, and of a number
@@ -23,7 +35,8 @@ class Held:
 
     def put(self, block):
         """Lines, each with its end."""
-        self.file.write(block)
+        with _written():
+            self.file.write(block)
         lines = block.split("\n")[:-1]
         self.count += len(lines)
         self.calls += len(lines) - lines.count("")
@@ -31,9 +44,11 @@ class Held:
         self.digits = max(self.digits, max(map(len, block.split()), default=1))
         self.progress.at(self.count)
 
-    def lines(self):
-        """The lines again, from the first, each with its end."""
-        self.file.seek(0)
+    def lines(self, *more):
+        """The lines again, from the first, each with its end; behind them more, which are not counted."""
+        with _written():
+            self.file.writelines(more)
+            self.file.seek(0)
         return self.file
 
 

@@ -46,7 +46,7 @@ def _unwritten(what, error):
 
 def write_file(name, texts):
     try:
-        with open(name, "w", encoding="utf-8") as file:
+        with open(name, "w", encoding="utf-8", errors="replace") as file:
             for text in texts:
                 file.write(text)
     except OSError as error:

@@ -16,11 +16,8 @@ class Unanswered(Exception):
 
 def by_program(held, program=PROGRAM):
     """The proved program's answers, at last to a listing in a line of its own behind the others. An empty line is `bad` to it."""
-    held.file.write("l\n")
-    held.file.flush()
-    held.file.seek(0)
-    number = 0
-    with subprocess.Popen(program, stdin=held.file, stdout=subprocess.PIPE, encoding="latin-1") as running, _again(held) as lines:
+    number, file = 0, held.lines("l\n")
+    with subprocess.Popen(program, stdin=file, stdout=subprocess.PIPE, encoding="latin-1") as running, _again(held) as lines:
         answered = answers.taken(running.stdout)
         for number, (line, answer) in enumerate(zip(lines, answered), 1):
             text = line[:-1]
