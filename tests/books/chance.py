@@ -2,7 +2,7 @@
 import random
 
 from brute import BYTES, Brute, by_turns
-from ground import answered, books, pieces
+from ground import answered, books, bounded, pieces
 
 FILES, FEW = 3000, 200
 LINES = 24
@@ -70,6 +70,6 @@ def compared(desk, entries, brute, due):
 
 def cases(words, is_few=False):
     """Groups of a hundred files."""
-    for begin in range(0, FEW if is_few else FILES, 100):
+    for begin in range(0, bounded(words, FILES, FEW, is_few), 100):
         wrong = next(filter(None, (problem(words, seed) for seed in range(begin, begin + 100))), None)
         yield f"random files {begin} to {begin + 99}", wrong

@@ -31,6 +31,11 @@ def program():
     return [made[0]] if platform.machine() == "x86_64" and len(made) == 1 else list(turns.PROGRAM)
 
 
+def bounded(words, files, few, is_few):
+    """How many random files are tried: few, where each run of the program goes through a shell and an emulator."""
+    return few if is_few or len(words) > 1 else files
+
+
 def answered(words, calls):
     """What the program prints for these lines, as lines."""
     given = "".join(line + "\n" for line in calls).encode("latin-1")

@@ -3,7 +3,7 @@ import random
 
 from brute import Brute, by_turns
 from chance import call
-from ground import Folder, answered, held_to, judged, run
+from ground import Folder, answered, bounded, held_to, judged, run
 
 FILES, FEW = 1500, 200
 LINES = 20
@@ -84,6 +84,6 @@ def cases(words, is_few=False):
         for name, calls, answers, status, out in LOGS:
             ended = run("check", folder.write("calls", calls), folder.write("answers", answers))
             yield held_to(name, ended, status, out, "")
-    for begin in range(0, FEW if is_few else FILES, 100):
+    for begin in range(0, bounded(words, FILES, FEW, is_few), 100):
         wrong = next(filter(None, (problem(words, seed) for seed in range(begin, begin + 100))), None)
         yield f"random logs {begin} to {begin + 99}", wrong
