@@ -12,11 +12,11 @@ MOST_LOOKED_AT = 64  # to find those, so that a sentence takes no longer where t
 
 
 class Book:
-    """`total` counts by vouchers, `pieces` byte by byte; `free` and `offered` are the same bytes in ranges."""
+    """`total` counts by vouchers, `pieces` byte by byte; `free` has the free bytes in ranges."""
 
     def __init__(self, words):
         self.words = words
-        self.pieces, self.free, self.offered = Pieces(), Ranges(), Ranges()
+        self.pieces, self.free = Pieces(), Ranges()
         self.total = 0
         self.last = None  # the last accepted voucher
         self.counted = None  # the one since which there are as many free ranges
@@ -26,16 +26,15 @@ class Book:
         self.last = number
         if first >= past:
             return
-        before = len(self.free)
+        before = len(self.free.firsts)
         if call.kind == "f":
             self.total += past - first
             self.free.add(first, past)
-            self.offered.add(first, past)
         else:
             self.total -= past - first
             self.free.remove(first, past)
         self.pieces.cover(first, past, Voucher(number, call.kind))
-        if len(self.free) != before:
+        if len(self.free.firsts) != before:
             self.counted = number
 
     def may_cover(self, call, first, past):
@@ -53,6 +52,13 @@ class Book:
         if past > TOP:
             return f"{self.words.bytes(first, past)} pass the last address"
         return self.named(first, past, is_free=call.kind == "f", are="were")
+
+    def offered(self):
+        """The bytes that some voucher has covered."""
+        ranges = Ranges()
+        for first, past, _ in self.pieces.all():
+            ranges.add(first, past)
+        return ranges
 
     def summed(self):
         """The free bytes, piece by piece."""

@@ -26,15 +26,15 @@ class Desk:
         """The next line or block."""
         self.entries += 1
         kind = answer.kind
-        if kind == "ok" and call is not None and call.kind != "l" and (answer.value is not None) == (call.kind == "a"):
-            return self._accepted(number, text, call, answer)
-        if kind == "list" and call is not None and call.kind == "l":
-            self.listed = answer
-            return self._entry(number, text, call, answer, faults=list(listing.wrong(self.book, answer)))
         if not fits(call, answer):
-            return self._entry(number, text, call, answer, faults=["no such call is answered so"])
+            return self._faulty(Entry(number, text, call, answer, None, None, 0, self.book.total, None, ["no such call is answered so"]))
+        if kind == "ok":
+            return self._accepted(number, text, call, answer)
+        if kind == "list":
+            self.listed = answer
+            return self._faulty(Entry(number, text, call, answer, None, None, 0, self.book.total, None, list(listing.wrong(self.book, answer))))
         self.refused += 1
-        return self._entry(number, text, call, answer, reason=self._reason(text, call, answer))
+        return Entry(number, text, call, answer, None, None, 0, self.book.total, self._reason(text, call, answer), ())
 
     def _reason(self, text, call, answer):
         if call is None:
@@ -49,11 +49,11 @@ class Desk:
         fault = self.book.wrong(call, first, past)
         self.book.accept(number, call, first, past)
         change = past - first if call.kind == "f" else first - past
-        if fault:
-            return self._entry(number, text, call, answer, first, past, change, faults=[f"accepted, though {fault}"])
-        return Entry(number, text, call, answer, first, past, change, self.book.total, None, ())
+        faults = [f"accepted, though {fault}"] if fault else ()
+        return self._faulty(Entry(number, text, call, answer, first, past, change, self.book.total, None, faults))
 
-    def _entry(self, number, text, call, answer, first=None, past=None, change=0, reason=None, faults=()):
-        if faults and self.first_fault is None:
-            self.first_fault = number
-        return Entry(number, text, call, answer, first, past, change, self.book.total, reason, faults)
+    def _faulty(self, entry):
+        """The entry, noted where it is the first with a fault."""
+        if entry.faults and self.first_fault is None:
+            self.first_fault = entry.number
+        return entry

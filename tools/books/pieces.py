@@ -13,15 +13,9 @@ class Pieces:
         self.heads = [0]  # the first place of each group
         self.groups = [([0], [None])]  # places, and what each holds
 
-    def __len__(self):
-        return sum(len(places) for places, _ in self.groups)
-
-    def _group(self, byte):
-        return bisect_right(self.heads, byte) - 1
-
     def cover(self, first, past, voucher):
         """From now on these bytes are the voucher's."""
-        low, high = self._group(first), self._group(past)
+        low, high = bisect_right(self.heads, first) - 1, bisect_right(self.heads, past) - 1
         places, held = self.groups[low]
         beyond, kept = self.groups[high]
         cut = bisect_right(beyond, past)
@@ -45,11 +39,12 @@ class Pieces:
 
     def _places(self, byte):
         """Places and what they hold, from the one that this byte belongs to."""
-        at = self._group(byte)
+        at = bisect_right(self.heads, byte) - 1
         begin = bisect_right(self.groups[at][0], byte) - 1
         while at < len(self.groups):
             places, held = self.groups[at]
-            yield from zip(places[begin:], held[begin:])
+            for each in range(begin, len(places)):
+                yield places[each], held[each]
             at, begin = at + 1, 0
 
     def within(self, first, past):

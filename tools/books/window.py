@@ -12,7 +12,7 @@ class Window:
 
     def before(self, desk):
         if desk.entries == self.left_out:
-            self.free, self.offered = desk.book.free.copy(), desk.book.offered.copy()
+            self.free, self.offered = desk.book.free.copy(), desk.book.offered()
 
     def after(self, entry):
         if self.free is not None:
