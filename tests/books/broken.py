@@ -14,6 +14,8 @@ BROKEN = [
     ("what lies above is lost", "chance", "ranges.py", "left += [(past, end)] if past < end else []", "pass"),
     ("what is taken is added", "chance", "book.py", "self.total -= past - first", "self.total += past - first"),
     ("hexadecimal is read as 0", "chance", "reading.py", "return str(int(field, 16))", 'return "0"'),
+    ("the last call is said to be another", "tables", "report.py", "last = f\"{self.words.voucher(voucher.number)}", "last = f\"{self.words.voucher(1)}"),
+    ("the last byte is one too far", "tables", "words.py", "to {self.address(past - 1)}", "to {self.address(past)}"),
     ("an overlap is let through", "logs", "book.py", "return not self.free.has_any(first, past) if", "return True if"),
     ("an address may be anywhere", "logs", "book.py", "is_off = call.kind ==", "is_off = call.kind is"),
     ("a range may be missing", "logs", "listing.py", "in book.free.without(union))", "in Ranges())"),

@@ -1,6 +1,5 @@
 """What the tests stand on: the command, the modules behind it, the proved program by its own words, and how a command ended."""
 import io
-import os
 import platform
 import re
 import subprocess
