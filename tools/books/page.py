@@ -58,7 +58,8 @@ def picture(words, window):
 
 
 def _memory(words, window):
-    yield f"<h2>The memory after each {words.noun}</h2>\n"
+    which = f", the last {len(window.entries)}" if window.left_out else ""
+    yield f"<h2>The memory after each {words.noun}{which}</h2>\n"
     drawn = False
     for drawing in drawings(words, window, links=True):
         drawn = True
