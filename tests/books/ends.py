@@ -42,6 +42,14 @@ def unreadable(folder):
     yield held_to("answers that are none", run("check", folder.write("c", "f 0 1"), folder.write("a", "yes")), 2, "", r"run: .*/a has a line that is no answer: yes\n")
     cut = run("check", folder.write("c", "l"), folder.write("a", "list 2 4|0 1"))
     yield held_to("a listing that is cut off", cut, 2, "", r"run: .*/a has a listing of 2 ranges, and after 1 of them its end comes\n")
+    recorded = run("check", folder.write("c", b"\x01"), folder.write("a", "ok"))
+    yield held_to("a journal as calls", recorded, 2, "", r"run: .*/c is a journal, which has its own answers: \./run books judges them\n")
+    few = folder / "few"
+    few.mkdir()
+    for tool in ("bash", "dirname", "readlink", "env"):
+        (few / tool).symlink_to(shutil.which(tool))
+    ended = run("books", folder / "c", env={"PATH": str(few)})
+    yield held_to("without python3", ended, 2, "", r"run: there is no `python3` here; tools/setup installs what is needed\n")
     secret = folder.write("secret", "f 0 8")
     secret.chmod(0)
     folder.path.chmod(0o755)

@@ -2,7 +2,7 @@
 import turns
 from answers import text_of
 from desk import UNEXPLAINED, UNREAD, Desk
-from held import answers_of, calls_of, read
+from held import answers_of, calls_alone_of, read
 from progress import EVERY, Progress
 from reading import Unreadable
 from report import closing, refusals
@@ -16,7 +16,7 @@ def check(options, out):
     if calls == log == "-":
         raise Unreadable("standard input cannot be both the calls and the answers")
     progress = Progress()
-    held, answered = _read(calls, calls_of, progress, out), _read(log, answers_of, progress, out)
+    held, answered = _read(calls, calls_alone_of, progress, out), _read(log, answers_of, progress, out)
     desk = Desk(Words(options.is_hex))
     progress.what = "judged"
     for number, text, call, answer in turns.by_log(held, answered):

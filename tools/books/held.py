@@ -58,6 +58,13 @@ def calls_or_journal_of(source, progress):
     return (journal_of if is_recorded else calls_of)(source, progress), is_recorded
 
 
+def calls_alone_of(source, progress):
+    """The calls of a file that is no journal."""
+    if journal.is_journal(source.peek(1)):
+        raise Unreadable("is a journal, which has its own answers: ./run books judges them")
+    return calls_of(source, progress)
+
+
 def calls_of(source, progress):
     """The calls of a file."""
     held = Held(progress)
