@@ -24,6 +24,8 @@ def asked_wrongly(folder):
     yield held_to("--help", run("books", "--help"), 0, USAGE, "")
     yield held_to("both from standard input", run("check", "-", "-"), 2, "", r"run: standard input cannot be both the calls and the answers\n")
     yield held_to("a page over the calls", run("books", calls, "--html", calls), 2, "", r"run: .* is the file of the calls, and would be written over\n")
+    both = run("books", calls, "--html", folder / "page", "--svg", folder / "page")
+    yield held_to("a page over its picture", both, 2, "", r"run: the page and its picture cannot be one file\n")
     yield "the calls are still there", None if calls.read_bytes() == b"f 0 8\n" else "they are not"
 
 
@@ -95,7 +97,7 @@ def false_programs(_):
     """A program that is not the proved one, and one that breaks off."""
     desk, entries, _ = books(["sed", "s/.*/ok/"], b"f 0 8\nf 4 2\n")
     yield "a program that says ok to everything", None if desk.first_fault == 2 and entries[2].faults else f"{entries}"
-    for what, words in (("breaks off", ["sed", "-u", "s/.*/ok/;1q"]), ("says too much", ["sed", "s/.*/ok/;p"]), ("ends badly", ["false"])):
+    for what, words in (("breaks off", ["sed", "-u", "s/.*/ok/;1q"]), ("says too much", ["sed", "s/.*/ok/;p"]), ("ends badly", ["false"]), ("says yes", ["sed", "s/.*/yes/"])):
         try:
             books(words, b"f 0 8\nf 4 2\n")
             yield f"a program that {what}", "it was believed"

@@ -9,8 +9,8 @@ from page import Told, page, picture
 from progress import EVERY, Progress
 from reading import Unreadable
 from report import Report, closing, refusals
-from words import Words
 from window import Window
+from words import Words
 
 CLOSES, REFUSED, FAILED = 0, 1, 2
 
@@ -35,6 +35,8 @@ def books(options, out):
 
 
 def _keep_apart(name, pages):
+    if len(set(map(os.path.realpath, pages))) < len(pages):
+        raise Unreadable("the page and its picture cannot be one file")
     for page_name in pages:
         if name != "-" and os.path.exists(page_name) and os.path.exists(name) and os.path.samefile(name, page_name):
             raise Unreadable(f"{page_name} is the file of the calls, and would be written over")

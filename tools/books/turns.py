@@ -4,6 +4,7 @@ from pathlib import Path
 
 import answers
 from calls import parse
+from reading import Unreadable
 from words import counted
 
 ROOT = Path(__file__).resolve().parents[2]
@@ -18,7 +19,7 @@ def by_program(held, program=PROGRAM):
     """The proved program's answers, at last to a listing in a line of its own behind the others. An empty line is `bad` to it."""
     number, file = 0, held.lines("l\n")
     with subprocess.Popen(program, stdin=file, stdout=subprocess.PIPE, encoding="latin-1") as running, _again(held) as lines:
-        answered = answers.taken(running.stdout)
+        answered = _printed(running.stdout)
         for number, (line, answer) in enumerate(zip(lines, answered), 1):
             text = line[:-1]
             if text:
@@ -27,6 +28,13 @@ def by_program(held, program=PROGRAM):
         if running.wait() == 0 and is_whole:
             return
     raise Unanswered("the program's answers are not one for each line")
+
+
+def _printed(lines):
+    try:
+        yield from answers.taken(lines)
+    except Unreadable as error:
+        raise Unanswered(f"what the program has printed {error}") from None
 
 
 def _again(held):
