@@ -26,13 +26,15 @@ def asked_by_words(folder):
     yield "example", run([RUN, "example"]).problem(0, EXAMPLE, "")
     yield "-", run([RUN, "-"], stdin=open(CALLS)).problem(0, ANSWERS, "")
     yield "-- alone", run([RUN, "--"], stdin=open(CALLS)).problem(0, ANSWERS, "")
-    for name in ("-calls", "--help", "-", "example", "--"):
+    for name in ("-calls", "--help", "-", "example", "books", "check", "--"):
         (folder / name).write_bytes(CALLS.read_bytes())
         yield f"-- {name}, a file", run([RUN, "--", name], cwd=folder).problem(0, ANSWERS, "")
     yield "a file", run([RUN, CALLS]).problem(0, ANSWERS, "")
 
 
 def misused(folder):
+    for word in ("books", "check"):
+        yield f"{word} alone", run([RUN, word]).problem(2, "", like(rf"run: {word} takes .*\nusage: ./run books FILE.*"))
     for words in (["--unknown"], ["-x"], ["-calls"], ["one", "two"], ["--help", "more"], ["--", "one", "two"]):
         yield f"{' '.join(words)}", run([RUN, *words], cwd=folder).problem(2, "", MISUSED)
     yield "a file that is not there", run([RUN, folder / "none"]).problem(1, "", f"run: there is no file {folder}/none\n")

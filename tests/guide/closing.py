@@ -1,8 +1,8 @@
-"""The bookkeeper's worked example: the two tables that close the books follow from the calls and answers that the page shows."""
+"""The bookkeeper's worked example: what the page shows of `./run books` follows from the calls and answers that it shows."""
 import re
 
-VOUCHERS = ("line", "call", "answer", "covers", "bytes")
-PIECES = ("bytes", "last accepted call", "free", "bytes")
+VOUCHERS = ["line", "call", "answer", "covers", "bytes", "total"]
+PIECES = ["bytes", "last accepted call", "free", "bytes"]
 
 
 def _covered(call, answer):
@@ -27,13 +27,11 @@ def _range(first, past):
 def _voucher_rows(calls, answers):
     total = 0
     for number, (call, answer) in enumerate(zip(calls, answers), 1):
-        if call == "l":
-            continue
         piece = _covered(call, answer)
         moved = (piece[1] - piece[0]) * (1 if call[0] == "f" else -1) if piece else 0
         total += moved
-        yield [str(number), f"`{call}`", f"`{answer}`", _range(*piece) if piece else "nothing", f"{moved:+}" if moved else "0"]
-    yield ["", "", "", "total", str(total)]
+        covers = [_range(*piece) if piece else "nothing", f"{moved:+}" if moved else "0", str(total)]
+        yield [str(number), call, answer, *([] if call == "l" else covers)]
 
 
 def _piece_rows(calls, answers):
@@ -56,8 +54,8 @@ def _byte_rows(calls, answers):
         letter = calls[number - 1][0]
         free = past - first if letter == "f" else 0
         total += free
-        yield [_range(first, past), f"line {number}, `{letter}`", "yes" if free else "no", str(free)]
-    yield ["", "", "total", str(total)]
+        yield [_range(first, past), f"line {number}, {letter}", "yes" if free else "no", str(free)]
+    yield ["total", str(total)]
 
 
 def _by_turns(calls, printed):
@@ -70,21 +68,31 @@ def _by_turns(calls, printed):
     return answers
 
 
-def closes(page, calls, printed):
-    """What is wrong with the tables."""
-    answers = _by_turns(calls, printed)
-    for header, made in ((VOUCHERS, _voucher_rows), (PIECES, _byte_rows)):
-        shown = page.table(*header)
-        if not shown:
-            yield f"{page.name}: there is no table with the columns {', '.join(header)}"
-            continue
-        due = list(made(calls, answers))
-        for (line, cells), row in zip(shown, due):
-            if cells != row:
-                yield f"{page.name}:{line}: this row should be | {' | '.join(row)} |"
-        if len(shown) != len(due):
-            yield f"{page.name}:{shown[0][0]}: the table has {len(shown)} rows, and {len(due)} follow from the calls"
+def _tables(shown):
+    """The rows below each head, cell by cell; the reasons of refusals stand between them and are no rows."""
+    tables, rows = {}, []
+    for line in shown:
+        cells = re.split(r" {2,}", line.strip())
+        if cells in (VOUCHERS, PIECES):
+            rows = tables.setdefault(tuple(cells), [])
+        elif not line:
+            rows = []
+        elif not re.match(r" +(no \d|bad): ", line):
+            rows.append(cells)
+    return tables
+
+
+def closes(page, calls, printed, shown):
+    """What is wrong with the tables that the page shows."""
+    answers, tables = _by_turns(calls, printed), _tables(shown)
+    for head, made in ((VOUCHERS, _voucher_rows), (PIECES, _byte_rows)):
+        rows, due = tables.get(tuple(head), []), list(made(calls, answers))
+        for row, wanted in zip(rows, due):
+            if row != wanted:
+                yield f"{page.name}: of what `./run books` prints this row should be {'  '.join(wanted)}, and is {'  '.join(row)}"
+        if len(rows) != len(due):
+            yield f"{page.name}: a table of `./run books` has {len(rows)} rows, and {len(due)} follow from the calls"
     listed = [answer.split()[2] for answer in answers if re.fullmatch(r"list \d+ \d+", answer)]
-    total = list(_voucher_rows(calls, answers))[-1][-1]
+    total = list(_byte_rows(calls, answers))[-1][-1]
     if listed and listed[-1] != total:
         yield f"{page.name}: the vouchers come to {total}, and the listing has {listed[-1]}"

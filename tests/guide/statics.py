@@ -10,7 +10,7 @@ from pages import FILES, KINDS, PARTS
 from reader import commands
 
 GUIDE, CONTRACTS = "README.md", "docs/CONTRACTS.md"
-EXAMPLE = ("calls.txt", "./run calls.txt")  # the bookkeeper's calls, and the command that answers them
+EXAMPLE = ("calls.txt", "./run calls.txt", "./run books calls.txt")  # the bookkeeper's calls, what answers them, and what closes the books
 
 
 def commands_of(block):
@@ -53,10 +53,11 @@ def _exceptions(project, called):
 def _books(guide):
     calls = [block.lines for block in guide.blocks if block.name == EXAMPLE[0]]
     answers = [command.shown for command in all_commands([guide]) if command.words == EXAMPLE[1]]
-    if not calls or not answers:
-        yield f"{guide.name}: it shows no file {EXAMPLE[0]} with the answers of `{EXAMPLE[1]}`"
+    books = [command.shown for command in all_commands([guide]) if command.words.startswith(EXAMPLE[2])]
+    if not calls or not answers or not books:
+        yield f"{guide.name}: it shows no file {EXAMPLE[0]} with what `{EXAMPLE[1]}` and `{EXAMPLE[2]}` print"
     else:
-        yield from closing.closes(guide, calls[0], answers[0])
+        yield from closing.closes(guide, calls[0], answers[0], books[0])
 
 
 def problems(project, pages):

@@ -1,0 +1,60 @@
+"""What `./run books` prints, cell by cell, against the bytes counted one by one; in hexadecimal too."""
+import random
+import re
+from itertools import groupby
+
+from brute import BYTES, Brute, by_turns, covered
+from chance import call
+from ground import Folder, answered, run
+
+FILES = 24
+LINES = 40
+
+
+def rows_due(calls, printed, address):
+    """The cells of both tables, and the total."""
+    brute, vouchers = Brute(), []
+    for number, (line, answer, listed) in enumerate(by_turns(calls, printed), 1):
+        brute.enter(number, line, answer)
+        vouchers.append([str(number), *shown(line, answer, address)])
+        if answer.startswith("ok"):
+            letter, bytes_ = covered(line, answer)
+            vouchers[-1] += [f"{address(bytes_[0])} to {address(bytes_[-1])}", f"{len(bytes_) * (1 if letter == 'f' else -1):+}", str(brute.total)]
+        elif listed is None:
+            vouchers[-1] += ["nothing", "0", str(brute.total)]
+    pieces = []
+    for last, bytes_ in groupby(range(BYTES), lambda byte: brute.last[byte]):
+        if last is not None:
+            bytes_ = list(bytes_)
+            size = len(bytes_) if last[1] == "f" else 0
+            pieces.append([f"{address(bytes_[0])} to {address(bytes_[-1])}", f"line {last[0]}, {last[1]}", "yes" if size else "no", str(size)])
+    return vouchers, [*pieces, ["total", str(brute.total)]]
+
+
+def shown(line, answer, address):
+    """A call and its answer, with their addresses as they are to be written."""
+    words = line.split()
+    if words[0] in "fr":
+        words[1] = address(int(words[1]))
+    return " ".join(words), f"ok {address(int(answer[3:]))}" if answer.startswith("ok ") else answer
+
+
+def rows_printed(out):
+    """The cells of both tables; the sentences below a row are no row."""
+    tables = []
+    for table in out.split("\n\n")[:2]:
+        lines = [line for line in table.split("\n")[1:] if not re.match(r" +(no \d|bad): ", line)]
+        tables.append([re.split(r" {2,}", line.strip()) for line in lines])
+    return tuple(tables)
+
+
+def cases(words, is_few=False):
+    with Folder() as folder:
+        for seed in range(4 if is_few else FILES):
+            rng, is_hex = random.Random(seed), seed % 2 == 1
+            calls = [call(rng) for _ in range(LINES)]
+            ended = run("books", folder.write("calls", "|".join(calls)), *(["--hex"] if is_hex else []))
+            due, got = rows_due(calls, answered(words, calls), hex if is_hex else str), rows_printed(ended.out)
+            wrong = next(((row, wanted) for table, other in zip(got, due) for row, wanted in zip(table, other) if row != wanted), None)
+            is_right = got == due and ended.status in (0, 1) and not ended.said
+            yield f"the tables of file {seed}", None if is_right else f"the first row that differs, and what it should be: {wrong}; {ended.said}"

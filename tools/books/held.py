@@ -1,0 +1,116 @@
+"""What was read, held in a file that has no name, line by line: it is read again beside its answers, and memory holds none of it."""
+import sys
+import tempfile
+from contextlib import contextmanager
+from itertools import islice
+
+import answers
+import journal
+from calls import text_of
+from output import Unwritten
+from reading import Tally, Unreadable, blocks
+
+TOGETHER = 4096  # blocks of a journal
+
+
+@contextmanager
+def _written():
+    """A failure here is none of what is read."""
+    try:
+        yield
+    except OSError as error:
+        raise Unwritten(f"a file in {tempfile.gettempdir()} cannot be written: {error.strerror}") from None
+
+
+class Held:
+    """`count` is of lines, `calls` of those that have something in them; `tally` what was read differently; `fault` of a journal."""
+
+    def __init__(self, progress):
+        with _written():
+            self.file = tempfile.TemporaryFile("w+", encoding="latin-1", newline="\n")
+        self.progress, self.tally = progress, Tally()
+        self.count = self.calls = 0
+        self.longest, self.digits = 4, 1  # of a line, and of a number
+        self.fault = None
+
+    def put(self, block):
+        """Lines, each with its end."""
+        with _written():
+            self.file.write(block)
+        lines = block.split("\n")[:-1]
+        self.count += len(lines)
+        self.calls += len(lines) - lines.count("")
+        self.longest = max(self.longest, max(map(len, lines)))
+        self.digits = max(self.digits, max(map(len, block.split()), default=1))
+        self.progress.at(self.count)
+
+    def lines(self, *more):
+        """The lines again, from the first, each with its end; behind them more, which are not counted."""
+        with _written():
+            self.file.writelines(more)
+            self.file.seek(0)
+        return self.file
+
+
+def calls_or_journal_of(source, progress):
+    """What was read, and whether it is a journal."""
+    is_recorded = journal.is_journal(source.peek(1))
+    return (journal_of if is_recorded else calls_of)(source, progress), is_recorded
+
+
+def calls_alone_of(source, progress):
+    """The calls of a file that is no journal."""
+    if journal.is_journal(source.peek(1)):
+        raise Unreadable("is a journal, which has its own answers: ./run books judges them")
+    return calls_of(source, progress)
+
+
+def calls_of(source, progress):
+    """The calls of a file."""
+    held = Held(progress)
+    for block in blocks(source, held.tally):
+        held.put(block)
+    return held
+
+
+def answers_of(source, progress):
+    """The lines of a box's answers that have something in them, and how many answers they are."""
+    held = Held(progress)
+    for block in blocks(source, held.tally):
+        written = "".join(line + "\n" for line in block.split("\n") if line)
+        if written:
+            held.put(written)
+    held.calls = sum(1 for _ in answers.taken(held.lines()))
+    return held
+
+
+def journal_of(source, progress):
+    """Each block as a line: its call, and the number that it records."""
+    held = Held(progress)
+    source.read(len(journal.VERSION))
+    recorded = journal.blocks(source)
+    while not held.fault:
+        lines = []
+        try:
+            for _, call, number in islice(recorded, TOGETHER):
+                lines.append(f"{text_of(call)} {number}\n")
+        except journal.Faulty as fault:
+            held.fault = fault
+        if not lines:
+            break
+        held.put("".join(lines))
+    return held
+
+
+def read(name, reader):
+    """What `reader` makes of a file of bytes; `-` is standard input."""
+    if not name:
+        raise Unreadable("the name of the file is empty")
+    shown = "standard input" if name == "-" else name
+    try:
+        with sys.stdin.buffer if name == "-" else open(name, "rb") as source:
+            return reader(source)
+    except OSError as error:
+        raise Unreadable(f"{shown} cannot be read: {error.strerror}") from None
+    except Unreadable as error:
+        raise Unreadable(f"{shown} {error}") from None
