@@ -12,7 +12,7 @@ use Rattle.lists.proofs.Laws.{true≢false}
 use Rattle.laws.proofs.Lists.{and-r}
 use Rattle.bytes_be.specs.Numbers.{be, number, Bytes}
 use Rattle.image_parts.specs.Read.{numberIn}
-use Rattle.image.proofs.Places.{beside, again, part-below, joined-take}
+use Rattle.image_parts.proofs.Places.{beside, again, part-below, joined-take}
 use Rattle.calls.specs.declared.Request.{Request}
 use Rattle.calls.specs.declared.Request.the-variants.{Allocate, Reserve, Free}
 use Rattle.journal_blocks.specs.Journal.{version, lengthOf, wordBytes, laidOut, blockBytes, blocksBytes, journalBytes, versioned, isLength, isKind, sizeIn, kindIn, wordIn, entry, entryIn, blockOf, blockAt, Contents, contents, followedBy, readFrom, readAll, Fits, AllFit}

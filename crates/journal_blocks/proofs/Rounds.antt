@@ -14,7 +14,7 @@ use Rattle.laws.proofs.Lists.{and-l, and-r}
 use Rattle.bytes_be.specs.Numbers.{be, number, Bytes}
 use Rattle.bytes_be.proofs.Laws.{length-be, number-be}
 use Rattle.image_parts.specs.Read.{numberIn}
-use Rattle.image.proofs.Places.{number-in, number-at, beside, again, part-below, joined-take}
+use Rattle.image_parts.proofs.Places.{number-in, number-at, beside, again, part-below, joined-take}
 use Rattle.calls.specs.declared.Request.{Request}
 use Rattle.calls.specs.declared.Request.the-variants.{Allocate, Reserve, Free}
 use Rattle.journal_blocks.specs.Journal.{version, kindOf, numbersOf, lengthOf, wordBytes, laidOut, blockBytes, blocksBytes, journalBytes, versioned, isLength, isKind, sizeIn, kindIn, wordIn, entry, entryIn, wholeBlock, blockOf, blockAt, Contents, contents, followedBy, readFrom, readAll, Fit, Fits, AllFit}
