@@ -47,9 +47,12 @@ fits q h e = (leb (q .from) e && leb (e + span h) (q .past)) && (leb h 2 && eqb 
 abbrev pub opens : Mapping → ℕ → ℕ → Bool
 opens q h e = meets q h e && not (fits q h e)
 
--- S2AP; AF, SH, MemAttr and the type, 11 at level 3 and 01 above
+-- AF, SH, MemAttr and the type, 11 at level 3 and 01 above; with S2AP and the output they are a leaf's word
+abbrev pub lowBits : ℕ → ℕ
+lowBits h = cond (eqb h 0) 0x73f 0x73d
+
 abbrev pub leafWord : Mapping → ℕ → ℕ → ℕ
-leafWord q h e = outputOf q e + (64 * q .permission + cond (eqb h 0) 0x73f 0x73d)
+leafWord q h e = outputOf q e + (64 * q .permission + lowBits h)
 
 abbrev pub tableWord : ℕ → ℕ
 tableWord page = page + 0x403

@@ -4,11 +4,11 @@ use mapper_laws::Mapping;
 use mapper_numbers::below_sum;
 use std::num::wrapping_add_u64;
 ghost use mathlib.Core.Path.{_≡_};
-ghost use Prim.Native.Nat.{_%_, _^_};
+ghost use Prim.Native.Nat.{_-_, _%_, _^_};
 ghost use Rattle.mapper_rules.specs.Walk.{span, isTable, isBlock};
 ghost use Rattle.mapper_laws.specs.Tree.{pageOf};
-ghost use Rattle.mapper_laws.specs.Mapping.{permissionOf, meets, fits, leafWord, tableWord};
-ghost use Rattle.mapper_words.specs.Heights.{capped, lowBits, less};
+ghost use Rattle.mapper_laws.specs.Mapping.{permissionOf, meets, fits, lowBits, leafWord, tableWord};
+ghost use Rattle.mapper_words.specs.Heights.{capped};
 
 const PAGE: u64 = 4096;
 
@@ -99,7 +99,7 @@ fn low_bits(height: u64) -> u64
 
 // a - b, or 0 where b is more.
 fn less_by(a: u64, b: u64) -> u64
-    ensures { λ r. ⌜ r ≡ less a b ⌝ }
+    ensures { λ r. ⌜ r ≡ a - b ⌝ }
 {
     if a < b {
         return 0;

@@ -1,5 +1,5 @@
 use Prim.Native.Nat.{_-_, _^_}
-use Rattle.mapper_words.specs.Heights.{lowBits}
+use Rattle.mapper_laws.specs.Mapping.{lowBits}
 use Rattle.mapper_words.proofs.Leaves.{leaf-sum}
 use borrow.Author.Needs.{needs}
 use Rattle.mapper_words.proofs.leaf_word.Statement.{statement}
