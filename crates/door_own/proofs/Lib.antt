@@ -1,2 +1,3 @@
 -- Laws of the calls on a state of one's own.
 pub mod Own
+pub mod Kept
