@@ -1,42 +1,43 @@
+use mathlib.Core.Path.{sym}
+use native.Mathlib.Omega.{arith}
+use lib.Seq.{length-take-le}
 use borrow.Author.Needs.{needs}
 use Rattle.show.proofs.turn.Statement.{statement}
 use Rattle.show.proofs.turn.Tie as tie
-use Rattle.show.proofs.turn.Reads as reads
-use Rattle.show.proofs.turn.Lts as lts
-use Rattle.show.proofs.read_on.Reads as read-on-reads
-use Rattle.show.proofs.show_part.Reads as show-part-reads
 
--- src/main.rt:139:23
 slice-reshare-prefix-show-part : tie.Need-slice-reshare-prefix-show-part
 slice-reshare-prefix-show-part c = search needs
 
--- src/main.rt:139:23
 slice-aggregate-show-part : tie.Need-slice-aggregate-show-part
-slice-aggregate-show-part c = ?
+slice-aggregate-show-part c = let s = c .before .before in sym (length-take-le (s .args .held) (s .args .buf .now) (s .pre .0))
 
--- src/main.rt:139:9
 show-part-requires : tie.Need-show-part-requires
-show-part-requires c κs = ?
+show-part-requires c κs = let s = c .before .before in omega (arith, length-take-le (s .args .held) (s .args .buf .now) (s .pre .0), s .pre .0, s .pre .1)
 
--- src/main.rt:141:9
 same-length : tie.Need-same-length
 same-length c = search needs
 
--- src/main.rt:141:9
 returns : tie.Need-returns
-returns c = ?
+returns c =
+    let shown = c .before in
+    let s = shown .before .before .before in
+    (omega arith, omega (arith, length-take-le (s .args .held) (s .args .buf .now) (s .pre .0), shown .show-part .ensures .1, s .pre .0))
 
--- src/main.rt:147:5
 read-on-requires : tie.Need-read-on-requires
-read-on-requires c κs = ?
+read-on-requires c κs =
+    let shown = c .before .before in
+    let s = shown .before .before .before in
+    (omega (arith, length-take-le (s .args .held) (s .args .buf .now) (s .pre .0), shown .show-part .ensures .0), s .pre .0)
 
--- src/main.rt:135:1
 same-length-2 : tie.Need-same-length-2
 same-length-2 c = search needs
 
--- src/main.rt:135:1
 returns-2 : tie.Need-returns-2
-returns-2 c = ?
+returns-2 c =
+    let read = c .before .before in
+    let shown = read .before .before .before in
+    let s = shown .before .before .before in
+    (read .read-on .ensures .0, omega (arith, length-take-le (s .args .held) (s .args .buf .now) (s .pre .0), read .read-on .ensures .1, shown .show-part .ensures .1, s .pre .0))
 
 pub turn-spec : {M : Type 1} → statement M
 turn-spec =
