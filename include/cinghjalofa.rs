@@ -97,7 +97,16 @@ extern "C" {
         places: usize,
     ) -> i64;
     pub fn cinghjalofa_journal_begin(journal: *mut u8, len: usize) -> i64;
-    pub fn cinghjalofa_journal_write(journal: *mut u8, len: usize, at: u64, kind: u64, x: u64, y: u64, z: u64, answer: i64) -> i64;
+    pub fn cinghjalofa_journal_write(
+        journal: *mut u8,
+        len: usize,
+        at: u64,
+        kind: u64,
+        x: u64,
+        y: u64,
+        z: u64,
+        answer: i64,
+    ) -> i64;
     pub fn cinghjalofa_journal_read(journal: *const u8, len: usize, at: u64, entry: *mut u64, words: usize) -> i64;
     pub fn cinghjalofa_audit(journal: *const u8, len: usize, figure: *mut u64) -> i64;
 }

@@ -18,7 +18,7 @@ pub struct Reading {
 }
 
 // The bytes of the chunk from `from` to `to` join the held ones, as far as the carry goes.
-fn hold(carry: &mut [u8], held: usize, chunk: &[u8], from: usize, to: usize) -> usize
+pub fn hold(carry: &mut [u8], held: usize, chunk: &[u8], from: usize, to: usize) -> usize
     requires { ⌜ (held ≤ length (now carry)) × (from ≤ to) × (to ≤ length (now chunk)) ⌝ }
     ensures { λ r. ⌜ Joins (between from to (was chunk)) (was carry) held (is carry) r ⌝ }
 {

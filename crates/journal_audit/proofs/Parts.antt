@@ -173,7 +173,8 @@ module _ (at : ℕ) (r ys : List ℕ) where
   longer _ (unfit w k d) f = whole-longer w ∙ rw (kind-longer w, yes (isKind (kindIn r)) k, no (eqb (sizeIn r) (lengthOf (kindIn r))) d)
   longer _ (call w k e) f =
       let q = w .there in
-      whole-longer w ∙ rw (kind-longer w, yes (isKind (kindIn r)) k, eq-eqb (sizeIn r) (lengthOf (kindIn r)) e) (ap (λ (x : Entry). block.Call x (at + (2 + sizeIn r))) (entry-longer (kindIn r) k (omega arith)))
+      whole-longer w ∙ rw (kind-longer w, yes (isKind (kindIn r)) k, eq-eqb (sizeIn r) (lengthOf (kindIn r)) e)
+      (ap (λ (x : Entry). block.Call x (at + (2 + sizeIn r))) (entry-longer (kindIn r) k (omega arith)))
 
 -- ---- where an audit of a part stands
 
@@ -232,7 +233,8 @@ module _ (n : ℕ) (small : n ≤ links.none) (p ys : List ℕ) where
   unfolding auditFrom blockOf
   unfolds zero at i b h = rw (lt-leb 1 (length (drop at whole)) (omega (arith, length-drop at whole)))
   unfolds (suc k) at i b h =
-      judged-same n whole (auditFrom n k whole) (auditFrom n (suc k) whole) at i b (blockAt whole at) (ahead at (drop at whole)) (λ next j d more. enough n whole k (suc k) next j d (omega arith) (omega arith))
+      judged-same n whole (auditFrom n k whole) (auditFrom n (suc k) whole) at i b (blockAt whole at) (ahead at (drop at whole))
+      (λ next j d more. enough n whole k (suc k) next j d (omega arith) (omega arith))
 
   block-longer : (at : ℕ) → at ≤ length p → wants (blockAt p at) ≡ false → blockAt whole at ≡ blockAt p at
   block-longer at h f = ap (blockOf at) (drop-append-le at p ys h) ∙ longer at (drop at p) ys (blockAt p at) (seen at (drop at p)) f

@@ -116,4 +116,5 @@ module _ (n : ℕ) (l : List ℕ) where
       let next = at + length (blockBytes e) in
       ap (judgedBy n (auditFrom n k l) at i b) (block-at l at e rest (f .0) h)
       ∙ rw (eq-eqb (answerBits (replayed n b q)) (answerBits (replayed n b q)) refl)
-      (replays k next (suc i) (replayed n b q .book) qs (f .1) (after-block l at e rest h) (omega arith) ∙ same-stand (next + length rest) (at + length (blockBytes e ++ rest)) (suc i + length qs) (i + suc (length qs)) _ (omega arith) (omega arith))
+      (replays k next (suc i) (replayed n b q .book) qs (f .1) (after-block l at e rest h) (omega arith)
+      ∙ same-stand (next + length rest) (at + length (blockBytes e ++ rest)) (suc i + length qs) (i + suc (length qs)) _ (omega arith) (omega arith))

@@ -76,7 +76,8 @@ module _ (n : ℕ) (small : n ≤ none) where
     pub call-differs : (bits ≡ e .answer → ⊥) → record { auditing = a; used = at; stop = stop.Differs } ≡ judgedBy n (standsAt n) at (a .index) b (block.Call e next)
     call-differs d = rw (ne-eqb (answerBits (replayed n b (e .request))) (e .answer) (λ p. d (bits-are ∙ p))) (still a at stop.Differs h)
 
-    pub call-agrees : bits ≡ e .answer → record { auditing = record { state = r .state; index = a .index + 1 }; used = next; stop = stop.More } ≡ judgedBy n (standsAt n) at (a .index) b (block.Call e next)
+    pub call-agrees : bits ≡ e .answer → record { auditing = record { state = r .state; index = a .index + 1 }; used = next; stop = stop.More }
+        ≡ judgedBy n (standsAt n) at (a .index) b (block.Call e next)
     call-agrees p =
         let s = ap (λ (x : Outcome). x .state) outcome in
         let i = add-one (a .index) in
@@ -84,7 +85,8 @@ module _ (n : ℕ) (small : n ≤ none) where
 
 module _ (n : ℕ) (a : Auditing) (at : ℕ) where
   -- the block that was read is a call
-  pub block-judged : (w v : Block) → w ≡ v → (u : Block) → w ≡ u → (r : Audited) → r ≡ judgedBy n (standsAt n) at (a .index) (bookOf n (a .state)) u → r ≡ judgedBy n (standsAt n) at (a .index) (bookOf n (a .state)) v
+  pub block-judged : (w v : Block) → w ≡ v → (u : Block) → w ≡ u → (r : Audited) → r ≡ judgedBy n (standsAt n) at (a .index) (bookOf n (a .state)) u
+      → r ≡ judgedBy n (standsAt n) at (a .index) (bookOf n (a .state)) v
   block-judged w v e u f r g = g ∙ ap (judgedBy n (standsAt n) at (a .index) (bookOf n (a .state))) (sym f ∙ e)
 
 -- or none

@@ -47,7 +47,8 @@ returns-2 c =
     let done = c .before in
     let begun = done .before .before in
     let some = begun .before in
-    reported pool (some .before .before .before .args .journal .now) _ (some .before .has-version .ensures) (some .if1 .left) _ (begun .start-audit .ensures) _ (done .audit-part .ensures) _ (c .verdict-of .ensures)
+    reported pool (some .before .before .before .args .journal .now) _ (some .before .has-version .ensures) (some .if1 .left) _ (begun .start-audit .ensures)
+    _ (done .audit-part .ensures) _ (c .verdict-of .ensures)
 
 pub audit-spec : {M : Type 1} → statement M
 audit-spec =

@@ -54,7 +54,8 @@ returns-4 c =
     let known = there .before in
     let read = known .before .before in
     let some = read .before .before in
-    all-there _ (some .before .before .args .bytes .now) _ (read .read-be .ensures .0) (some .if1 .left) _ (known .before .is-length .ensures) (known .if2 .left) (there .if3 .left) _ (c .read-whole .ensures)
+    all-there _ (some .before .before .args .bytes .now) _ (read .read-be .ensures .0) (some .if1 .left) _ (known .before .is-length .ensures) (known .if2 .left)
+    (there .if3 .left) _ (c .read-whole .ensures)
 
 pub read-front-spec : {M : Type 1} → statement M
 read-front-spec =

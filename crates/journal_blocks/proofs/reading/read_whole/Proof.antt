@@ -56,7 +56,8 @@ returns-3 c =
     let sized = fits .before in
     let known = sized .before in
     let read = known .before .before in
-    a-call _ _ (read .before .before .before .args .block .now) _ (read .read-be .ensures .0) _ (known .before .is-kind .ensures) (known .if1 .left) _ (sized .length-of .ensures) (fits .if2 .left) _ (c .entry-in .ensures)
+    a-call _ _ (read .before .before .before .args .block .now) _ (read .read-be .ensures .0) _ (known .before .is-kind .ensures) (known .if1 .left) _ (sized .length-of .ensures)
+    (fits .if2 .left) _ (c .entry-in .ensures)
 
 pub read-whole-spec : {M : Type 1} → statement M
 read-whole-spec =

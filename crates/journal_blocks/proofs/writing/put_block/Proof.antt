@@ -50,7 +50,8 @@ returns-3 c =
     let room = filled .before .before in
     let s = room .before .before .before .before in
     let size = length-laid (s .args .kind) (s .args .words .now) in
-    put-part (laidOut (s .args .kind) (s .args .words .now)) (s .args .journal .now) _ (s .args .at) _ (sym size) (omega (arith, size, room .before .if1 .left, room .if2 .left)) (filled .fill-block .ensures)
+    put-part (laidOut (s .args .kind) (s .args .words .now)) (s .args .journal .now) _ (s .args .at) _ (sym size) (omega (arith, size, room .before .if1 .left, room .if2 .left))
+    (filled .fill-block .ensures)
 
 pub put-block-spec : {M : Type 1} → statement M
 put-block-spec =
