@@ -18,7 +18,7 @@ use Rattle.batch.proofs.Histories.{list-sound}
 use Rattle.bytes_be.specs.Numbers.{Bytes}
 use Rattle.image_parts.specs.Layout.{Layout}
 use Rattle.image.specs.Reading.{Handed, readingOf}
-use Rattle.image.proofs.Fitting.{Lawful}
+use Rattle.image_parts.proofs.Lawful.{Lawful}
 use Rattle.image.proofs.Rounds.{read-written, accepted-image}
 use Rattle.door_copies.specs.Copies.{Lists, imported, Imports}
 
