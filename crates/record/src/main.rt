@@ -1,4 +1,5 @@
 // The program that records a journal: the calls of a script, played from empty, each with its answer as a block.
+use calls::Outcome;
 use chunks::hold;
 use journal_blocks::Entry;
 use journal_blocks::answer_bits;
@@ -49,7 +50,7 @@ fn tape_line(s: MemoryAllocator, line: &[u8], out: &mut [u8], at: usize) -> Tape
 {
     match parse_line(line) {
         Line::Asks(request) => {
-            let made = serve(s, request);
+            let made: Outcome = serve(s, request);
             let answer = made.answer;
             let state = made.state;
             let entry = Entry {
