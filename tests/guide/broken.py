@@ -42,11 +42,11 @@ def unnoticed(project, texts, take_apart):
 
 # what is wrong then; the file; what stands there; what stands there instead; what a problem must speak of
 MISDRAWN = [
-    ("a crate that is named and never imported", "crates.txt", "\nlaws: rules\n", "\nlaws: rules lists\n", "laws names lists"),
-    ("a crate that is imported and not named", "crates.txt", "\nengine: rules laws\n", "\nengine: rules\n", "engine does not name laws"),
+    ("a crate that is named and never imported", "crates.txt", "\nrules_laws: rules\n", "\nrules_laws: rules linked_lists\n", "rules_laws names linked_lists"),
+    ("a crate that is imported and not named", "crates.txt", "\nrules_engine: rules rules_laws\n", "\nrules_engine: rules\n", "rules_engine does not name rules_laws"),
     ("other words of a crate", "crates.txt", "\n# the free ranges by address\n", "\n# the ranges\n", "docs/ARCHITECTURE.md is old"),
     ("another title of a family", "crates.txt", "\n## doors\n", "\n## ports\n", "README.md is old"),
-    ("an old picture", "docs/layers.svg", ">chain<", ">chains<", "docs/layers.svg is old"),
+    ("an old picture", "docs/layers.svg", ">pool_chain<", ">pool_chains<", "docs/layers.svg is old"),
 ]
 DRAWN = ["crates", "crates.txt", "docs", "tools", "README.md"]
 

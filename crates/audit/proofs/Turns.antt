@@ -4,8 +4,8 @@ use mathlib.Core.List.{List, []}
 use mathlib.Core.Path.{_≡_, sym, subst}
 use lib.ListN.{length}
 use native.Mathlib.Omega.{arith}
-use Rattle.lists.specs.Links.{none}
-use Rattle.state.specs.Sound.{SoundState}
+use Rattle.linked_lists.specs.Links.{none}
+use Rattle.pool_state.specs.Sound.{SoundState}
 use Rattle.journal_audit.specs.Audit.{auditedOn}
 use Rattle.journal_audit.specs.declared.Auditing.{Auditing}
 use Rattle.journal_audit.specs.declared.Audited.{Audited}

@@ -2,7 +2,7 @@
 use Prim.Native.Nat.{ℕ, _+_, _≤_}
 use mathlib.Core.List.{List}
 use lib.ListN.{length}
-use Rattle.state.specs.Sound.{SoundState}
+use Rattle.pool_state.specs.Sound.{SoundState}
 use Rattle.journal_audit.specs.declared.Auditing.{Auditing}
 use Rattle.audit.specs.declared.Sitting.{Sitting}
 

@@ -14,9 +14,9 @@ use streams::read_some;
 ghost use mathlib.Core.Path.{_≡_};
 ghost use Prim.Native.Nat.{_+_, _<_, _≤_, _^_};
 ghost use lib.ListN.{length};
-ghost use Rattle.state.specs.Shown.{pool};
-ghost use Rattle.state.specs.Sound.{SoundState};
-ghost use Rattle.state.specs.Lent.{was, is};
+ghost use Rattle.pool_state.specs.Shown.{pool};
+ghost use Rattle.pool_state.specs.Sound.{SoundState};
+ghost use Rattle.pool_state.specs.Lent.{was, is};
 ghost use Rattle.audit.specs.Sittings.{Ready};
 
 // Where the audit stands, how many bytes at the front of the buffer are still to be judged, and whether a line was printed or a call

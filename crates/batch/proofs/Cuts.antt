@@ -10,16 +10,16 @@ use lib.ListN.{length, take, drop, length-append, length-drop, take-append-drop}
 use lib.Seq.{length-take-le, drop-length, drop-drop}
 use native.Mathlib.Omega.{arith}
 use borrow.Author.Tests.{le-leb}
-use Rattle.lists.specs.Links.{none}
-use Rattle.state.specs.Sound.{SoundState}
-use Rattle.state.specs.declared.MemoryAllocator.{MemoryAllocator}
-use Rattle.soundness.proofs.Exact.{sound-passes}
+use Rattle.linked_lists.specs.Links.{none}
+use Rattle.pool_state.specs.Sound.{SoundState}
+use Rattle.pool_state.specs.declared.MemoryAllocator.{MemoryAllocator}
+use Rattle.check_meaning.proofs.Exact.{sound-passes}
 use Rattle.calls.specs.Calls.{callOf, signedOf}
 use Rattle.calls.specs.declared.Request.{Request}
 use Rattle.calls.specs.declared.Request.the-variants.{Allocate, Reserve, Free}
-use Rattle.serving.specs.Made.{made}
+use Rattle.core_serve.specs.Made.{made}
 use Rattle.memory_allocator.specs.States.{states}
-use Rattle.listing.specs.Listing.{written}
+use Rattle.pool_listing.specs.Listing.{written}
 use Rattle.batch.specs.InWords.{wordsOf, asked, whole}
 use Rattle.batch.specs.Lists.{leftBy, answersOf, fitted, listServed, answered}
 use Rattle.batch.specs.Histories.{Batch, stateDoor, front, rest, CutAt}

@@ -9,22 +9,22 @@ use lib.ListN.{length, set, take}
 use lib.Seq.{take-length}
 use native.Mathlib.Omega.{arith}
 use borrow.Author.Tests.{leb-true}
-use Rattle.lists.specs.Links.{none}
-use Rattle.lists.proofs.Laws.{true≢false}
+use Rattle.linked_lists.specs.Links.{none}
+use Rattle.linked_lists.proofs.Laws.{true≢false}
 use Rattle.rules.specs.Rules.{top, Book}
 use Rattle.rules.specs.Sound.{Sound}
-use Rattle.state.specs.State.{Holds}
-use Rattle.state.specs.Sound.{bookOf, SoundState}
-use Rattle.state.specs.declared.MemoryAllocator.{MemoryAllocator}
-use Rattle.state.proofs.Book.{holds-sound, sound-holds}
-use Rattle.soundness.proofs.Exact.{sound-sized, sound-passes}
+use Rattle.pool_state.specs.State.{Holds}
+use Rattle.pool_state.specs.Sound.{bookOf, SoundState}
+use Rattle.pool_state.specs.declared.MemoryAllocator.{MemoryAllocator}
+use Rattle.pool_state.proofs.Book.{holds-sound, sound-holds}
+use Rattle.check_meaning.proofs.Exact.{sound-sized, sound-passes}
 use Rattle.calls.specs.Calls.{callOf, addressOf, signedOf}
 use Rattle.calls.specs.Answers.{Answers}
 use Rattle.calls.specs.declared.Answer.{Answer}
 use Rattle.calls.specs.declared.Outcome.{Outcome}
 use Rattle.calls.proofs.Below.{step-below}
-use Rattle.serving.proofs.Judged.{sound-judged}
-use Rattle.listing.proofs.Writing.{partly, partly-on, partly-all}
+use Rattle.core_serve.proofs.Judged.{sound-judged}
+use Rattle.pool_listing.proofs.Writing.{partly, partly-on, partly-all}
 use Rattle.batch.specs.InWords.{asked, askedAt, whole, ruleOf}
 use Rattle.batch.specs.Lists.{servedOf, leftBy, answersOf, fitted, Served}
 use Rattle.batch.specs.declared.Asked.{Asked}

@@ -5,21 +5,21 @@ use mathlib.Core.List.{List, [], _∷_, _++_}
 use mathlib.Core.Path.{_≡_, refl, sym, ap, _∙_}
 use lib.IntN.{ℤ}
 use lib.ListN.{length, drop}
-use Rattle.lists.specs.Links.{none}
+use Rattle.linked_lists.specs.Links.{none}
 use Rattle.rules.specs.Rules.{Book, empty, Call}
 use Rattle.rules.specs.Sound.{Sound}
-use Rattle.laws.proofs.Steps.{step-sound}
-use Rattle.engine.specs.Engine.{Engine, after, vouchers}
-use Rattle.engine.specs.Demand.{left, DemandOf, Demand}
-use Rattle.engine.proofs.Histories.{after-append, vouchers-append, carried}
-use Rattle.state.specs.State.{stateOf}
-use Rattle.state.specs.Sound.{bookOf, SoundState}
-use Rattle.state.specs.declared.MemoryAllocator.{MemoryAllocator}
-use Rattle.soundness.proofs.Exact.{sound-passes}
+use Rattle.rules_laws.proofs.Steps.{step-sound}
+use Rattle.rules_engine.specs.Engine.{Engine, after, vouchers}
+use Rattle.rules_engine.specs.Demand.{left, DemandOf, Demand}
+use Rattle.rules_engine.proofs.Histories.{after-append, vouchers-append, carried}
+use Rattle.pool_state.specs.State.{stateOf}
+use Rattle.pool_state.specs.Sound.{bookOf, SoundState}
+use Rattle.pool_state.specs.declared.MemoryAllocator.{MemoryAllocator}
+use Rattle.check_meaning.proofs.Exact.{sound-passes}
 use Rattle.calls.specs.Calls.{callOf}
 use Rattle.calls.specs.declared.Outcome.{Outcome}
 use Rattle.calls.proofs.Numbers.{signed-voucher}
-use Rattle.serving.specs.Made.{held, judged, made}
+use Rattle.core_serve.specs.Made.{held, judged, made}
 use Rattle.memory_allocator.specs.States.{states}
 use Rattle.memory_allocator.proofs.Steps.{sound-held}
 use Rattle.memory_allocator.proofs.Demand.{demand}

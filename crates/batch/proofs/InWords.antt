@@ -7,7 +7,7 @@ use lib.Dec.{eqb}
 use lib.ListN.{length, getD, take}
 use native.Mathlib.Omega.{arith}
 use borrow.Author.Tests.{ne-eqb}
-use Rattle.lists.proofs.Laws.{true≢false}
+use Rattle.linked_lists.proofs.Laws.{true≢false}
 use Rattle.calls.specs.declared.Request.the-variants.{Allocate, Reserve, Free}
 use Rattle.batch.specs.InWords.{askedOf, askedBy, asked, whole}
 use Rattle.batch.specs.declared.Asked.{Asked}

@@ -7,7 +7,7 @@ use mathlib.Core.Path.{_≡_}
 use lib.IntN.{ℤ}
 use lib.ListN.{length, take, drop}
 use Rattle.rules.specs.Rules.{Call, Voucher}
-use Rattle.engine.specs.Engine.{Engine}
+use Rattle.rules_engine.specs.Engine.{Engine}
 use Rattle.calls.specs.Calls.{callOf, voucherFrom}
 use Rattle.memory_allocator.specs.States.{states}
 use Rattle.batch.specs.InWords.{asked}

@@ -6,14 +6,14 @@ use mathlib.Core.Path.{_≡_}
 use lib.Dec.{leb}
 use lib.IntN.{ℤ}
 use lib.ListN.{length}
-use Rattle.state.specs.Lent.{Lent, was, is, OfLent, turns}
-use Rattle.state.specs.declared.MemoryAllocator.{MemoryAllocator}
-use Rattle.sound.specs.IsSound.{isSound}
+use Rattle.pool_state.specs.Lent.{Lent, was, is, OfLent, turns}
+use Rattle.pool_state.specs.declared.MemoryAllocator.{MemoryAllocator}
+use Rattle.check_state.specs.IsSound.{isSound}
 use Rattle.calls.specs.Calls.{signedOf}
 use Rattle.calls.specs.declared.Answer.the-variants.{Accepted, InvalidEntry, InvalidRequest}
 use Rattle.calls.specs.declared.Outcome.{Outcome}
-use Rattle.serving.specs.Made.{judged}
-use Rattle.listing.specs.Listing.{written}
+use Rattle.core_serve.specs.Made.{judged}
+use Rattle.pool_listing.specs.Listing.{written}
 use Rattle.batch.specs.InWords.{asked, whole, ruleOf}
 use Rattle.batch.specs.declared.Asked.{Asked}
 

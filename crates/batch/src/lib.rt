@@ -2,17 +2,17 @@
 use calls::Answer;
 use calls::Outcome;
 use calls::Request;
-use sound::is_sound;
-use state::Address;
-use state::MemoryAllocator;
-use state::RecordIndex;
+use check_state::is_sound;
+use pool_state::Address;
+use pool_state::MemoryAllocator;
+use pool_state::RecordIndex;
 ghost use mathlib.Core.Bool.{true};
 ghost use mathlib.Core.Path.{_≡_};
 ghost use Prim.Native.Nat.{_<_};
 ghost use lib.ListN.{length};
-ghost use Rattle.state.specs.Shown.{pool};
-ghost use Rattle.state.specs.Lent.{was};
-ghost use Rattle.sound.specs.IsSound.{isSound};
+ghost use Rattle.pool_state.specs.Shown.{pool};
+ghost use Rattle.pool_state.specs.Lent.{was};
+ghost use Rattle.check_state.specs.IsSound.{isSound};
 ghost use Rattle.batch.specs.InWords.{asked, askedBy, askedAt, wordsOf};
 ghost use Rattle.batch.specs.Lists.{fitted, Served, Serves};
 

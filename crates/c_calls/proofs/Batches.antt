@@ -13,18 +13,18 @@ use borrow.Author.Tests.{eqb-true}
 use Rattle.image.specs.Reading.{readingOf}
 use Rattle.bytes_be.specs.Numbers.{Bytes}
 use Rattle.calls.specs.declared.Answer.the-variants.{InvalidEntry}
-use Rattle.soundness.proofs.Exact.{sound-passes}
-use Rattle.lists.proofs.Laws.{true≢false}
-use Rattle.lists.specs.Links.{none}
+use Rattle.check_meaning.proofs.Exact.{sound-passes}
+use Rattle.linked_lists.proofs.Laws.{true≢false}
+use Rattle.linked_lists.specs.Links.{none}
 use Rattle.rules.specs.Rules.{Call}
-use Rattle.engine.specs.Engine.{after, vouchers}
-use Rattle.engine.specs.Demand.{left, DemandOf}
-use Rattle.state.specs.Sound.{SoundState}
-use Rattle.state.specs.declared.MemoryAllocator.{MemoryAllocator}
-use Rattle.sound.specs.IsSound.{isSound}
+use Rattle.rules_engine.specs.Engine.{after, vouchers}
+use Rattle.rules_engine.specs.Demand.{left, DemandOf}
+use Rattle.pool_state.specs.Sound.{SoundState}
+use Rattle.pool_state.specs.declared.MemoryAllocator.{MemoryAllocator}
+use Rattle.check_state.specs.IsSound.{isSound}
 use Rattle.calls.specs.Calls.{callOf, numberOf, signedOf}
 use Rattle.calls.specs.declared.Request.{Request}
-use Rattle.serving.specs.Made.{made}
+use Rattle.core_serve.specs.Made.{made}
 use Rattle.memory_allocator.specs.States.{states}
 use Rattle.batch.specs.InWords.{asked, wordsOf}
 use Rattle.batch.specs.Lists.{fitted, listServed}
@@ -32,7 +32,7 @@ use Rattle.batch.specs.Histories.{Batch, callsIn, vouchersIn, afterLists, vouch
 use Rattle.batch.specs.declared.Asked.the-variants.{Is}
 use Rattle.batch.proofs.Histories.{of-lists, made-sound, list-left, list-kept, list-sound}
 use Rattle.batch.proofs.Cuts.{Fits, single-left, single-answer, cut, asked-one, one-fits}
-use Rattle.listing.specs.Listing.{written}
+use Rattle.pool_listing.specs.Listing.{written}
 use Rattle.image_parts.specs.Layout.{Layout, imageSize}
 use Rattle.image_writing.specs.Writing.{imageOf}
 use Rattle.image.specs.Writing.{Image}

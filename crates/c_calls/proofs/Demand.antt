@@ -5,16 +5,16 @@ use mathlib.Core.List.{List}
 use mathlib.Core.Path.{_≡_, refl, sym, ap, _∙_}
 use lib.IntN.{pos}
 use lib.ListN.{length}
-use Rattle.lists.specs.Links.{none}
+use Rattle.linked_lists.specs.Links.{none}
 use Rattle.rules.specs.Rules.{Book, empty, total}
 use Rattle.rules.specs.Sound.{Sound}
-use Rattle.engine.specs.Demand.{Demand}
-use Rattle.engine.proofs.Obeys.{Obeys}
-use Rattle.engine.proofs.Demand as engine
-use Rattle.state.specs.State.{stateOf}
-use Rattle.state.specs.Sound.{bookOf, SoundState}
-use Rattle.state.specs.declared.MemoryAllocator.{MemoryAllocator}
-use Rattle.state.proofs.Book.{book-back}
+use Rattle.rules_engine.specs.Demand.{Demand}
+use Rattle.rules_engine.proofs.Obeys.{Obeys}
+use Rattle.rules_engine.proofs.Demand as engine
+use Rattle.pool_state.specs.State.{stateOf}
+use Rattle.pool_state.specs.Sound.{bookOf, SoundState}
+use Rattle.pool_state.specs.declared.MemoryAllocator.{MemoryAllocator}
+use Rattle.pool_state.proofs.Book.{book-back}
 use Rattle.calls.specs.Calls.{voucherFrom}
 use Rattle.calls.specs.declared.Outcome.{Outcome}
 use Rattle.memory_allocator.proofs.Steps.{sound-held, made-held, made-voucher}

@@ -5,12 +5,12 @@ use mathlib.Core.Logic.{_≢_}
 use mathlib.Core.Path.{_≡_, refl, sym, ap, _∙_}
 use borrow.Author.Tests.{eqb-false}
 use Rattle.rules.specs.Rules.{Call}
-use Rattle.state.specs.Sound.{SoundState}
-use Rattle.state.specs.declared.MemoryAllocator.{MemoryAllocator}
-use Rattle.soundness.proofs.Exact.{sound-sized}
+use Rattle.pool_state.specs.Sound.{SoundState}
+use Rattle.pool_state.specs.declared.MemoryAllocator.{MemoryAllocator}
+use Rattle.check_meaning.proofs.Exact.{sound-sized}
 use Rattle.calls.specs.Calls.{numberOf, isAccepted, signedOf, voucherOf, voucherFrom}
 use Rattle.calls.proofs.Numbers.{signed-voucher}
-use Rattle.serving.specs.Made.{made}
+use Rattle.core_serve.specs.Made.{made}
 use Rattle.calls.specs.declared.Outcome.{Outcome}
 use Rattle.memory_allocator.proofs.Refusals.{refused-same}
 use Rattle.image_parts.specs.Layout.{Layout}

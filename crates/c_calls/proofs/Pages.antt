@@ -6,8 +6,8 @@ use mathlib.Core.Path.{_≡_, refl, sym, ap, _∙_, subst}
 use lib.Dec.{eqb}
 use lib.ListN.{length}
 use borrow.Author.Tests.{eqb-true}
-use Rattle.state.specs.Sound.{SoundState}
-use Rattle.soundness.proofs.Exact.{sound-sized}
+use Rattle.pool_state.specs.Sound.{SoundState}
+use Rattle.check_meaning.proofs.Exact.{sound-sized}
 use Rattle.calls.specs.declared.Outcome.{Outcome}
 use Rattle.pages.specs.Calls.{PageCall, byteCall}
 use Rattle.pages.specs.Demand.{PageDemand}

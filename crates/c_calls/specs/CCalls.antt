@@ -4,9 +4,9 @@ use mathlib.Core.List.{List}
 use lib.Dec.{eqb}
 use lib.ListN.{length}
 use Rattle.rules.specs.Rules.{empty, Call, Free, Allocate, Reserve}
-use Rattle.state.specs.State.{stateOf}
+use Rattle.pool_state.specs.State.{stateOf}
 use Rattle.calls.specs.declared.Answer.the-variants.{Accepted}
-use Rattle.serving.specs.Made.{made}
+use Rattle.core_serve.specs.Made.{made}
 use Rattle.calls.specs.declared.Outcome.{Outcome}
 use Rattle.pages.specs.Calls.{PageCall, AllocatePages, FreePages, byteCall}
 use Rattle.image_parts.specs.Layout.{Layout, imageSize}

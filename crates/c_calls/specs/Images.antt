@@ -2,8 +2,8 @@
 use Prim.Native.Nat.{ℕ}
 use mathlib.Core.List.{List}
 use Rattle.rules.specs.Rules.{Book}
-use Rattle.engine.specs.Engine.{Engine}
-use Rattle.state.specs.Sound.{bookOf}
+use Rattle.rules_engine.specs.Engine.{Engine}
+use Rattle.pool_state.specs.Sound.{bookOf}
 use Rattle.calls.specs.Calls.{voucherFrom}
 use Rattle.pages.specs.Calls.{byteCall, Door}
 use Rattle.image_parts.specs.Layout.{Layout, word, totalAt}

@@ -6,8 +6,8 @@ use lib.Dec.{lit<}
 use native.Mathlib.Omega.{arith}
 use Rattle.rules.specs.Rules.{top, Range, Book, down, up, Answer, refuse, reserve, reserveFrom, Call, Free, Allocate, Reserve, step}
 use Rattle.rules.specs.Sound.{Sound}
-use Rattle.laws.proofs.Lists.{if}
-use Rattle.laws.proofs.Outcomes.{Outcome, refusal, took, gave, outcome}
+use Rattle.rules_laws.proofs.Lists.{if}
+use Rattle.rules_laws.proofs.Outcomes.{Outcome, refusal, took, gave, outcome}
 
 -- a refusal's address is 0
 refuse-below : (q : Bool) (k : ℕ) (b : Book) (w : Answer) → w .address < top → refuse q k b w .address < top

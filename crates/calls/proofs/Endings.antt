@@ -2,8 +2,8 @@
 use Prim.Native.Nat.{ℕ}
 use mathlib.Core.Path.{_≡_, sym, subst}
 use Rattle.rules.specs.Rules.{Book, Answer, refused}
-use Rattle.state.specs.State.{Holds}
-use Rattle.state.specs.declared.MemoryAllocator.{MemoryAllocator}
+use Rattle.pool_state.specs.State.{Holds}
+use Rattle.pool_state.specs.declared.MemoryAllocator.{MemoryAllocator}
 use Rattle.calls.specs.Calls.{numberOf, addressOf}
 use Rattle.calls.specs.Answers.{Answers}
 use Rattle.calls.specs.declared.Answer as answer

@@ -9,7 +9,7 @@ use lib.Signed.{ltZ}
 use borrow.Author.Tests.{le-ltb}
 use Rattle.rules.specs.Rules as rules
 use Rattle.rules.specs.Rules.{Book, Call, voucher}
-use Rattle.laws.proofs.Outcomes.{Outcome, refusal, took, gave}
+use Rattle.rules_laws.proofs.Outcomes.{Outcome, refusal, took, gave}
 use Rattle.calls.specs.Calls.{numberOf, addressOf, answerOf, voucherOf, isAccepted, signedOf, voucherFrom}
 use Rattle.calls.specs.declared.Answer.{Answer}
 use Rattle.calls.specs.declared.Answer.the-variants.{Accepted, NoEntry, InvalidEntry, NoMemory, InvalidRequest}

@@ -2,9 +2,9 @@
 use Prim.Native.Nat.{ℕ}
 use mathlib.Core.Path.{_≡_}
 use Rattle.rules.specs.Rules as rules
-use Rattle.state.specs.State.{Holds}
-use Rattle.state.specs.Lent.{OfLent, turns}
-use Rattle.state.specs.declared.MemoryAllocator.{MemoryAllocator}
+use Rattle.pool_state.specs.State.{Holds}
+use Rattle.pool_state.specs.Lent.{OfLent, turns}
+use Rattle.pool_state.specs.declared.MemoryAllocator.{MemoryAllocator}
 use Rattle.calls.specs.Calls.{numberOf, addressOf}
 use Rattle.calls.specs.declared.Answer.{Answer}
 

@@ -1,6 +1,6 @@
 // A call as code has it: the request, the answer, what stands beside an answer, and the numbers that stand for one.
-use state::Address;
-use state::MemoryAllocator;
+use pool_state::Address;
+use pool_state::MemoryAllocator;
 ghost use mathlib.Core.Path.{_≡_};
 ghost use Prim.Native.Nat.{_<_};
 ghost use Rattle.rules.specs.Rules.{top};

@@ -6,12 +6,12 @@ use mathlib.Core.Path.{_≡_, refl, sym, ap, subst, _∙_}
 use lib.Dec.{eqb}
 use lib.IntN.{ℤ}
 use borrow.Author.Tests.{eqb-true}
-use Rattle.lists.specs.Links.{none}
+use Rattle.linked_lists.specs.Links.{none}
 use Rattle.rules.specs.Rules.{Book}
-use Rattle.state.specs.State.{Holds}
-use Rattle.state.specs.Sound.{SoundState}
-use Rattle.state.specs.declared.MemoryAllocator.{MemoryAllocator}
-use Rattle.state.proofs.Book.{holds-sound, sound-holds}
+use Rattle.pool_state.specs.State.{Holds}
+use Rattle.pool_state.specs.Sound.{SoundState}
+use Rattle.pool_state.specs.declared.MemoryAllocator.{MemoryAllocator}
+use Rattle.pool_state.proofs.Book.{holds-sound, sound-holds}
 use Rattle.calls.specs.declared.Answer.the-variants.{Accepted, InvalidEntry}
 use Rattle.calls.specs.declared.Outcome.{Outcome}
 use Rattle.batch.proofs.Histories.{list-sound}

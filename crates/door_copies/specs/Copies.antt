@@ -6,7 +6,7 @@ use mathlib.Core.Path.{_≡_}
 use lib.Dec.{eqb}
 use lib.IntN.{ℤ, pos, negℤ}
 use lib.ListN.{length}
-use Rattle.state.specs.declared.MemoryAllocator.{MemoryAllocator}
+use Rattle.pool_state.specs.declared.MemoryAllocator.{MemoryAllocator}
 use Rattle.calls.specs.Calls.{signedOf}
 use Rattle.calls.specs.declared.Answer.the-variants.{Accepted, InvalidEntry}
 use Rattle.calls.specs.declared.Outcome.{Outcome}

@@ -1,11 +1,11 @@
 // Ten lent fields as a state by value, and back.
-use state::LISTS;
-use state::MemoryAllocator;
-use state::POOL;
-use state::RecordIndex;
+use pool_state::LISTS;
+use pool_state::MemoryAllocator;
+use pool_state::POOL;
+use pool_state::RecordIndex;
 ghost use mathlib.Core.Path.{_≡_};
-ghost use Rattle.state.specs.Lent.{was, turns};
-ghost use Rattle.state.specs.State.{arrays};
+ghost use Rattle.pool_state.specs.Lent.{was, turns};
+ghost use Rattle.pool_state.specs.State.{arrays};
 
 pub fn state_of(
     total: u64,

@@ -8,13 +8,13 @@ use fields::store;
 use image::ImageAnswer;
 use image::read_image;
 use image::write_image;
-use state::LISTS;
-use state::POOL;
+use pool_state::LISTS;
+use pool_state::POOL;
 ghost use mathlib.Core.Path.{_≡_};
 ghost use Rattle.image_parts.specs.Layout.{current};
-ghost use Rattle.state.specs.Lent.{was, is, turns};
-ghost use Rattle.state.specs.Shown.{pool};
-ghost use Rattle.state.specs.State.{arrays};
+ghost use Rattle.pool_state.specs.Lent.{was, is, turns};
+ghost use Rattle.pool_state.specs.Shown.{pool};
+ghost use Rattle.pool_state.specs.State.{arrays};
 ghost use Rattle.door_copies.specs.Copies.{Lists, Imports, Exports};
 
 mod fields;

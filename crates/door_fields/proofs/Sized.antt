@@ -3,9 +3,9 @@ use Prim.Native.Nat.{ℕ}
 use mathlib.Core.Bool.{true}
 use mathlib.Core.Path.{_≡_}
 use borrow.Author.Tests.{eq-eqb, eqb-true}
-use Rattle.state.specs.declared.MemoryAllocator.{MemoryAllocator}
-use Rattle.soundness.specs.Paragraph.{Sized}
-use Rattle.sound_records.proofs.Tests.{and-true}
+use Rattle.pool_state.specs.declared.MemoryAllocator.{MemoryAllocator}
+use Rattle.check_meaning.specs.Paragraph.{Sized}
+use Rattle.check_records.proofs.Tests.{and-true}
 use Rattle.door_fields.specs.Fields.{isSized}
 
 module _ (n : ℕ) (s : MemoryAllocator) where

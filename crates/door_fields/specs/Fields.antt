@@ -4,8 +4,8 @@ use mathlib.Core.Bool.{Bool, cond, _&&_}
 use lib.Dec.{eqb}
 use lib.ListN.{length}
 use Rattle.rules.specs.Rules.{sizeLists}
-use Rattle.state.specs.declared.MemoryAllocator.{MemoryAllocator}
-use Rattle.sound.specs.IsSound.{isSound}
+use Rattle.pool_state.specs.declared.MemoryAllocator.{MemoryAllocator}
+use Rattle.check_state.specs.IsSound.{isSound}
 use Rattle.calls.specs.declared.Request.the-variants.{Allocate, Free}
 use Rattle.pages.specs.Pages.{bytesOf, raised, freedBytes}
 use Rattle.batch.specs.InWords.{askedOf}

@@ -5,7 +5,7 @@ use batch::Words;
 use pages::bytes_of;
 use pages::freed_bytes;
 use pages::raised_order;
-use state::Address;
+use pool_state::Address;
 ghost use mathlib.Core.Path.{_≡_};
 ghost use Rattle.batch.specs.InWords.{askedBy};
 ghost use Rattle.door_fields.specs.Fields.{askedHere};

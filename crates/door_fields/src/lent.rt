@@ -1,12 +1,12 @@
 // The check of ten lent fields.
-use sound::is_sound_in;
-use state::LISTS;
-use state::POOL;
-use state::RecordIndex;
+use check_state::is_sound_in;
+use pool_state::LISTS;
+use pool_state::POOL;
+use pool_state::RecordIndex;
 ghost use mathlib.Core.Path.{_≡_};
-ghost use Rattle.state.specs.Lent.{was};
-ghost use Rattle.state.specs.Shown.{pool};
-ghost use Rattle.state.specs.State.{arrays};
+ghost use Rattle.pool_state.specs.Lent.{was};
+ghost use Rattle.pool_state.specs.Shown.{pool};
+ghost use Rattle.pool_state.specs.State.{arrays};
 ghost use Rattle.door_fields.specs.Fields.{isSized, soundHere};
 
 // Whether the arrays have as many places as their types say. They do, and the compiler leaves the question out; but of an array behind a

@@ -1,15 +1,15 @@
 // A state of one's own, as ten fields in the caller's memory that are lent one by one: a new one, its check, and the kinds of call on it.
-use sound::is_sound_in;
-use state::LISTS;
-use state::NONE;
-use state::POOL;
-use state::RecordIndex;
+use check_state::is_sound_in;
+use pool_state::LISTS;
+use pool_state::NONE;
+use pool_state::POOL;
+use pool_state::RecordIndex;
 ghost use mathlib.Core.Path.{_≡_};
 ghost use Rattle.rules.specs.Rules.{empty};
-ghost use Rattle.sound.specs.IsSound.{isSound};
-ghost use Rattle.state.specs.Lent.{was, turns};
-ghost use Rattle.state.specs.Shown.{pool};
-ghost use Rattle.state.specs.State.{arrays, stateOf};
+ghost use Rattle.check_state.specs.IsSound.{isSound};
+ghost use Rattle.pool_state.specs.Lent.{was, turns};
+ghost use Rattle.pool_state.specs.Shown.{pool};
+ghost use Rattle.pool_state.specs.State.{arrays, stateOf};
 
 mod kinds;
 mod lent;

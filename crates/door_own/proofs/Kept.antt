@@ -3,15 +3,15 @@
 use Prim.Native.Nat.{ℕ, _≤_}
 use mathlib.Core.Path.{_≡_, sym, ap, subst, _∙_}
 use lib.IntN.{ℤ}
-use Rattle.lists.specs.Links.{none}
+use Rattle.linked_lists.specs.Links.{none}
 use Rattle.rules.specs.Rules.{Book, empty}
-use Rattle.laws.proofs.Kept.{empty-sound}
-use Rattle.state.specs.State.{Holds, stateOf}
-use Rattle.state.specs.Sound.{SoundState}
-use Rattle.state.specs.declared.MemoryAllocator.{MemoryAllocator}
-use Rattle.state.proofs.States.{state-holds}
-use Rattle.state.proofs.Book.{holds-sound, sound-holds}
-use Rattle.soundness.proofs.Exact.{sound-sized}
+use Rattle.rules_laws.proofs.Kept.{empty-sound}
+use Rattle.pool_state.specs.State.{Holds, stateOf}
+use Rattle.pool_state.specs.Sound.{SoundState}
+use Rattle.pool_state.specs.declared.MemoryAllocator.{MemoryAllocator}
+use Rattle.pool_state.proofs.States.{state-holds}
+use Rattle.pool_state.proofs.Book.{holds-sound, sound-holds}
+use Rattle.check_meaning.proofs.Exact.{sound-sized}
 use Rattle.calls.specs.declared.Outcome.{Outcome}
 use Rattle.batch.specs.InWords.{ruleOf}
 use Rattle.batch.specs.declared.Asked.{Asked}

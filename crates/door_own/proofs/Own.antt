@@ -3,27 +3,27 @@ use Prim.Native.Nat.{ℕ, _<_, _≤_}
 use mathlib.Core.Bool.{Bool, true, false, _&&_}
 use mathlib.Core.Path.{_≡_, refl, sym, ap, subst, _∙_}
 use lib.IntN.{ℤ}
-use Rattle.lists.specs.Links.{none}
+use Rattle.linked_lists.specs.Links.{none}
 use Rattle.rules.specs.Rules.{top, Book, refused}
 use Rattle.rules.specs.Rules as rules
-use Rattle.state.specs.State.{Holds}
-use Rattle.state.specs.declared.MemoryAllocator.{MemoryAllocator}
-use Rattle.state.proofs.Book.{holds-sound}
-use Rattle.sound.specs.IsSound.{isSound}
-use Rattle.soundness.specs.Paragraph.{Sized}
-use Rattle.soundness.proofs.Exact.{sound-sized, sound-passes}
+use Rattle.pool_state.specs.State.{Holds}
+use Rattle.pool_state.specs.declared.MemoryAllocator.{MemoryAllocator}
+use Rattle.pool_state.proofs.Book.{holds-sound}
+use Rattle.check_state.specs.IsSound.{isSound}
+use Rattle.check_meaning.specs.Paragraph.{Sized}
+use Rattle.check_meaning.proofs.Exact.{sound-sized, sound-passes}
 use Rattle.calls.specs.Calls.{addressOf, signedOf}
 use Rattle.calls.specs.Answers.{Answers}
 use Rattle.calls.specs.declared.Answer.{Answer}
 use Rattle.calls.specs.declared.Answer.the-variants.{InvalidEntry, InvalidRequest}
 use Rattle.calls.specs.declared.Outcome.{Outcome}
 use Rattle.calls.proofs.Below.{step-below}
-use Rattle.serving.specs.Made.{judged}
-use Rattle.serving.proofs.Judged.{book-held, sound-judged, unsound-judged}
+use Rattle.core_serve.specs.Made.{judged}
+use Rattle.core_serve.proofs.Judged.{book-held, sound-judged, unsound-judged}
 use Rattle.batch.specs.InWords.{ruleOf}
 use Rattle.batch.specs.declared.Asked.{Asked}
 use Rattle.batch.specs.declared.Asked.the-variants.{Unknown}
-use Rattle.sound_records.proofs.Tests.{and-true}
+use Rattle.check_records.proofs.Tests.{and-true}
 use Rattle.door_fields.specs.Fields.{isSized, soundHere}
 use Rattle.door_fields.proofs.Sized.{sized-passes, passes-sized}
 use Rattle.door_own.specs.Own.{judgedHere, Judged}

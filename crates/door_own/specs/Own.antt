@@ -5,12 +5,12 @@ use mathlib.Core.Path.{_≡_}
 use lib.IntN.{ℤ}
 use Rattle.rules.specs.Rules as rules
 use Rattle.rules.specs.Rules.{Book}
-use Rattle.state.specs.Lent.{OfLent, turns}
-use Rattle.state.specs.declared.MemoryAllocator.{MemoryAllocator}
+use Rattle.pool_state.specs.Lent.{OfLent, turns}
+use Rattle.pool_state.specs.declared.MemoryAllocator.{MemoryAllocator}
 use Rattle.calls.specs.Calls.{signedOf}
 use Rattle.calls.specs.declared.Answer.the-variants.{InvalidEntry}
 use Rattle.calls.specs.declared.Outcome.{Outcome}
-use Rattle.serving.specs.Made.{judged}
+use Rattle.core_serve.specs.Made.{judged}
 use Rattle.door_fields.specs.Fields.{isSized}
 
 -- what the call answers and leaves is what the call on a state by value does (`Made.antt`)

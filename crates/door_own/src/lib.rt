@@ -1,21 +1,21 @@
 // The calls on a state of one's own: ten fields in the caller's memory, lent one by one. A checked call asks first whether they are a sound
 // state. An unchecked one requires it: it holds of fields that `new`, a checked import and the calls alone have written.
-use allocating::allocate_in;
 use batch::ALLOCATE;
 use batch::FREE;
 use batch::RESERVE;
+use call_allocate::allocate_in;
+use call_free::free_in;
+use call_reserve::reserve_in;
 use calls::INVALID_ENTRY;
 use calls::signed_number;
 use door_fields::in_bytes;
 use door_fields::is_sound_lent;
-use freeing::free_in;
-use reserving::reserve_in;
-use state::Address;
-use state::LISTS;
-use state::POOL;
+use pool_state::Address;
+use pool_state::LISTS;
+use pool_state::POOL;
 ghost use Rattle.batch.specs.InWords.{ruleOf};
-ghost use Rattle.state.specs.Lent.{HoldsSome};
-ghost use Rattle.state.specs.Shown.{pool};
+ghost use Rattle.pool_state.specs.Lent.{HoldsSome};
+ghost use Rattle.pool_state.specs.Shown.{pool};
 ghost use Rattle.door_fields.specs.Fields.{askedHere};
 ghost use Rattle.door_own.specs.Own.{Judges};
 

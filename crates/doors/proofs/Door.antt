@@ -34,10 +34,10 @@ use denote.Triple.Spec.{Meets, tripleOf}
 use denote.Triple.Walked.{says, Stays, stay-ref, hasOf, walkOf, goes-ref, ends-at, walked, walk-meets}
 use denote.Triple.Clauses.{Ended, Clauses, closing, ensured, lasts}
 use denote.Exit.{yes}
-use Rattle.state.specs.declared.MemoryAllocator.{MemoryAllocator}
+use Rattle.pool_state.specs.declared.MemoryAllocator.{MemoryAllocator}
 use Rattle.calls.specs.declared.Outcome.{Outcome}
-use Rattle.state.proofs.MemoryAllocator as T
-use Rattle.state.proofs.MemoryAllocator.Laws as T′
+use Rattle.pool_state.proofs.MemoryAllocator as T
+use Rattle.pool_state.proofs.MemoryAllocator.Laws as T′
 use Rattle.calls.proofs.Answer as N
 use Rattle.calls.proofs.Answer.Laws as N′
 use Rattle.calls.proofs.Outcome as O

@@ -15,8 +15,8 @@ use denote.Laws.{Is, Tells, Makes}
 use denote.Plain.{UInt, uint-tells, uint-makes, uint-lawful}
 use denote.Exit.{yes, Last, left}
 use denote.Struct.Laws as LL
-use Rattle.state.proofs.Address as At
-use Rattle.state.proofs.Address.Laws as At′
+use Rattle.pool_state.proofs.Address as At
+use Rattle.pool_state.proofs.Address.Laws as At′
 
 pub record Passed : Type 2 where
   pub row : RattleType

@@ -26,10 +26,10 @@ use denote.Enum.Laws as EL
 use denote.Triple.Statement.{Triple}
 use denote.Triple.Call.{calls-at}
 use denote.Triple.Clauses.{ensured}
-use Rattle.state.specs.declared.MemoryAllocator.{MemoryAllocator}
+use Rattle.pool_state.specs.declared.MemoryAllocator.{MemoryAllocator}
 use Rattle.calls.specs.declared.Outcome.{Outcome}
-use Rattle.state.proofs.MemoryAllocator as T
-use Rattle.state.proofs.MemoryAllocator.Laws as T′
+use Rattle.pool_state.proofs.MemoryAllocator as T
+use Rattle.pool_state.proofs.MemoryAllocator.Laws as T′
 use Rattle.calls.proofs.Answer as N
 use Rattle.calls.proofs.Answer.Laws as N′
 use Rattle.calls.proofs.Outcome as O

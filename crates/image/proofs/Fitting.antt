@@ -4,15 +4,15 @@ use native.Mathlib.Omega.{arith}
 use mathlib.Core.Bool.{Bool, true, false}
 use mathlib.Core.Path.{_≡_, refl}
 use lib.ListN.{getD}
-use Rattle.lists.specs.Links.{none}
+use Rattle.linked_lists.specs.Links.{none}
 use Rattle.rules.specs.Rules.{sizeLists}
-use Rattle.laws.proofs.Bytes.{total-le}
-use Rattle.state.specs.Sound.{bookOf, SoundState}
-use Rattle.state.proofs.Book.{sound-holds}
-use Rattle.state.specs.declared.MemoryAllocator.{MemoryAllocator}
-use Rattle.sound_records.specs.Records.{used}
-use Rattle.soundness.specs.Paragraph.{Sized, Link, Links, Paragraph}
-use Rattle.soundness.proofs.Exact.{paragraph}
+use Rattle.rules_laws.proofs.Bytes.{total-le}
+use Rattle.pool_state.specs.Sound.{bookOf, SoundState}
+use Rattle.pool_state.proofs.Book.{sound-holds}
+use Rattle.pool_state.specs.declared.MemoryAllocator.{MemoryAllocator}
+use Rattle.check_records.specs.Records.{used}
+use Rattle.check_meaning.specs.Paragraph.{Sized, Link, Links, Paragraph}
+use Rattle.check_meaning.proofs.Exact.{paragraph}
 use Rattle.image_parts.specs.Layout.{word}
 
 pub record Fits (n : ℕ) (s : MemoryAllocator) : Type 0 where

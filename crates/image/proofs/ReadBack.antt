@@ -10,12 +10,12 @@ use lib.Dec.{ltb, eqb, ltb→lt}
 use lib.ListN.{length, take, getD, length-append}
 use lib.Seq.{take-all}
 use borrow.Author.Tests.{lt-ltb, le-ltb, eq-eqb, ne-eqb, le-leb}
-use Rattle.laws.proofs.Lists.{if}
+use Rattle.rules_laws.proofs.Lists.{if}
 use Rattle.rules.specs.Rules.{sizeLists}
-use Rattle.state.specs.State.{arrays}
-use Rattle.state.specs.declared.MemoryAllocator.{MemoryAllocator}
-use Rattle.state.proofs.States.{by-tab}
-use Rattle.soundness.specs.Paragraph.{Link}
+use Rattle.pool_state.specs.State.{arrays}
+use Rattle.pool_state.specs.declared.MemoryAllocator.{MemoryAllocator}
+use Rattle.pool_state.proofs.States.{by-tab}
+use Rattle.check_meaning.specs.Paragraph.{Link}
 use Rattle.bytes_be.specs.Numbers.{be, number}
 use Rattle.bytes_be.proofs.Laws.{length-be, number-be}
 use Rattle.image_parts.specs.Layout.{Layout, word, noLink, lengthAt, lengthSize, totalAt, firstAt, headsAt, recordsAt, endAt, enabledAt, linksAt, recordSize, imageSize, restSize}

@@ -6,11 +6,11 @@ use mathlib.Core.List.{List}
 use Prim.Native.Nat.{ℕ, _≤_}
 use native.Mathlib.Omega.{arith}
 use lib.ListN.{length}
-use Rattle.state.specs.Sound.{SoundState}
-use Rattle.state.specs.declared.MemoryAllocator.{MemoryAllocator}
-use Rattle.lists.specs.Links.{none}
-use Rattle.sound.specs.IsSound.{isSound}
-use Rattle.soundness.proofs.Exact.{sound-passes, passes-sound}
+use Rattle.pool_state.specs.Sound.{SoundState}
+use Rattle.pool_state.specs.declared.MemoryAllocator.{MemoryAllocator}
+use Rattle.linked_lists.specs.Links.{none}
+use Rattle.check_state.specs.IsSound.{isSound}
+use Rattle.check_meaning.proofs.Exact.{sound-passes, passes-sound}
 use Rattle.bytes_be.specs.Numbers.{Bytes}
 use Rattle.image_parts.specs.Layout.{Layout, imageSize}
 use Rattle.image_writing.specs.Writing.{imageOf}

@@ -7,11 +7,11 @@ use Prim.Native.Nat.{ℕ, _+_, _*_, _<_}
 use native.Mathlib.Omega.{arith}
 use lib.ListN.{getD}
 use borrow.Author.Tests.{ne-eqb}
-use Rattle.state.specs.Sound.{SoundState}
-use Rattle.state.specs.declared.MemoryAllocator.{MemoryAllocator}
-use Rattle.state.proofs.States.{at-tab}
-use Rattle.soundness.specs.Paragraph.{Fresh}
-use Rattle.soundness.proofs.Exact.{paragraph, passes-sound}
+use Rattle.pool_state.specs.Sound.{SoundState}
+use Rattle.pool_state.specs.declared.MemoryAllocator.{MemoryAllocator}
+use Rattle.pool_state.proofs.States.{at-tab}
+use Rattle.check_meaning.specs.Paragraph.{Fresh}
+use Rattle.check_meaning.proofs.Exact.{paragraph, passes-sound}
 use Rattle.bytes_be.specs.Numbers.{Bytes}
 use Rattle.image_parts.specs.Layout.{Layout, recordsAt, enabledAt, recordSize}
 use Rattle.image_parts.specs.Read.{flagsIn}

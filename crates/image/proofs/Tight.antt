@@ -3,7 +3,7 @@ use mathlib.Core.Path.{_≡_, refl, ap}
 use mathlib.Core.List.{List}
 use Prim.Native.Nat.{ℕ}
 use native.Mathlib.Omega.{arith}
-use Rattle.state.specs.declared.MemoryAllocator.{MemoryAllocator}
+use Rattle.pool_state.specs.declared.MemoryAllocator.{MemoryAllocator}
 use Rattle.image.specs.Writing.{numberOf, Written, written}
 use Rattle.image.specs.Reading.{Handed, handed}
 use Rattle.image.specs.declared.ImageAnswer.{ImageAnswer}

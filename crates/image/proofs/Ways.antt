@@ -6,8 +6,8 @@ use Prim.Native.Nat.{ℕ, _+_}
 use lib.Dec.{eqb}
 use lib.ListN.{length}
 use borrow.Author.Tests.{eq-eqb, ne-eqb, eqb-true}
-use Rattle.state.specs.declared.MemoryAllocator.{MemoryAllocator}
-use Rattle.sound.specs.IsSound.{isSound}
+use Rattle.pool_state.specs.declared.MemoryAllocator.{MemoryAllocator}
+use Rattle.check_state.specs.IsSound.{isSound}
 use Rattle.image_parts.specs.Layout.{Layout, lengthAt, lengthSize, recordsAt, enabledAt, recordSize, imageSize, restSize}
 use Rattle.image_writing.specs.Writing.{imageOf}
 use Rattle.image.specs.Writing.{written, writingOf}

@@ -10,10 +10,10 @@ use lib.Dec.{eqb}
 use lib.ListN.{length, take, drop, getD}
 use lib.Seq.{take-all}
 use borrow.Author.Tests.{lt-ltb, le-ltb, eq-eqb, ne-eqb}
-use Rattle.lists.specs.Links.{none}
-use Rattle.lists.proofs.Laws.{same?, length-tab}
+use Rattle.linked_lists.specs.Links.{none}
+use Rattle.linked_lists.proofs.Laws.{same?, length-tab}
 use Rattle.rules.specs.Rules.{sizeLists}
-use Rattle.state.proofs.States.{at-tab}
+use Rattle.pool_state.proofs.States.{at-tab}
 use Rattle.bytes_be.specs.Numbers.{be, Bytes}
 use Rattle.image_parts.specs.Layout.{Layout, word, noLink, lengthAt, lengthSize, totalAt, firstAt, headsAt, recordsAt, endAt, enabledAt, linksAt, recordSize, imageSize}
 use Rattle.image_parts.specs.Written.{joined, linkNumber, flagNumber, linkBytes, recordBytes, headBytes}

@@ -3,8 +3,8 @@ use Prim.Native.Nat.{ℕ}
 use mathlib.Core.Bool.{cond}
 use mathlib.Core.List.{List}
 use Rattle.rules.specs.Rules.{empty}
-use Rattle.state.specs.State.{stateOf}
-use Rattle.state.specs.declared.MemoryAllocator.{MemoryAllocator}
+use Rattle.pool_state.specs.State.{stateOf}
+use Rattle.pool_state.specs.declared.MemoryAllocator.{MemoryAllocator}
 use Rattle.image_parts.specs.Layout.{Layout}
 use Rattle.image_reading.specs.Reading.{stateIn, readable}
 use Rattle.image.specs.Writing.{numberOf}

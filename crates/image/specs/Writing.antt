@@ -5,9 +5,9 @@ use mathlib.Core.List.{List}
 use mathlib.Core.Path.{_≡_}
 use lib.Dec.{eqb}
 use lib.ListN.{length}
-use Rattle.state.specs.Sound.{SoundState}
-use Rattle.state.specs.declared.MemoryAllocator.{MemoryAllocator}
-use Rattle.sound.specs.IsSound.{isSound}
+use Rattle.pool_state.specs.Sound.{SoundState}
+use Rattle.pool_state.specs.declared.MemoryAllocator.{MemoryAllocator}
+use Rattle.check_state.specs.IsSound.{isSound}
 use Rattle.image_parts.specs.Layout.{Layout, imageSize}
 use Rattle.image_writing.specs.Writing.{imageOf}
 use Rattle.image.specs.declared.ImageAnswer.{ImageAnswer}

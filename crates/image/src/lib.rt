@@ -1,5 +1,5 @@
 // The byte image of a state: its writer and its reader.
-use state::MemoryAllocator;
+use pool_state::MemoryAllocator;
 
 mod read;
 mod write;

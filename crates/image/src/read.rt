@@ -2,12 +2,12 @@
 use crate::ImageAnswer;
 use crate::Reading;
 use image_reading::read_fields;
-use state::LISTS;
-use state::MemoryAllocator;
-use state::NONE;
-use state::POOL;
-use state::RecordIndex;
-use state::new;
+use pool_state::LISTS;
+use pool_state::MemoryAllocator;
+use pool_state::NONE;
+use pool_state::POOL;
+use pool_state::RecordIndex;
+use pool_state::new;
 ghost use mathlib.Core.Path.{_≡_};
 ghost use Rattle.image_parts.specs.Layout.{current};
 ghost use Rattle.image.specs.Reading.{handed, refused, readingOf};

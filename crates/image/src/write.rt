@@ -1,9 +1,9 @@
 // Writing an image.
 use crate::ImageAnswer;
+use check_state::is_sound;
 use image_parts::layout::IMAGE;
 use image_writing::write_fields;
-use sound::is_sound;
-use state::MemoryAllocator;
+use pool_state::MemoryAllocator;
 ghost use mathlib.Core.Path.{_≡_};
 ghost use lib.ListN.{length};
 ghost use Rattle.image_parts.specs.Layout.{current, imageSize};

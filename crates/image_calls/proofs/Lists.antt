@@ -5,12 +5,12 @@ use mathlib.Core.List.{List}
 use mathlib.Core.Path.{_≡_, refl, sym, _∙_, ap, subst}
 use lib.IntN.{ℤ, pos}
 use lib.ListN.{length}
-use Rattle.state.specs.State.{Holds}
-use Rattle.state.specs.Sound.{bookOf, SoundState}
-use Rattle.state.specs.declared.MemoryAllocator.{MemoryAllocator}
-use Rattle.state.proofs.Book.{sound-holds}
-use Rattle.sound.specs.IsSound.{isSound}
-use Rattle.soundness.proofs.Exact.{passes-sound}
+use Rattle.pool_state.specs.State.{Holds}
+use Rattle.pool_state.specs.Sound.{bookOf, SoundState}
+use Rattle.pool_state.specs.declared.MemoryAllocator.{MemoryAllocator}
+use Rattle.pool_state.proofs.Book.{sound-holds}
+use Rattle.check_state.specs.IsSound.{isSound}
+use Rattle.check_meaning.proofs.Exact.{passes-sound}
 use Rattle.calls.specs.Calls.{signedOf}
 use Rattle.calls.specs.declared.Answer.the-variants.{Accepted, InvalidEntry, InvalidRequest}
 use Rattle.calls.specs.declared.Outcome.{Outcome}

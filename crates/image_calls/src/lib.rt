@@ -4,12 +4,12 @@ use batch::serve_list_in;
 use calls::INVALID_ENTRY;
 use image_reading::read_fields;
 use image_writing::write_fields;
-use state::LISTS;
-use state::NONE;
-use state::POOL;
-use state::RecordIndex;
+use pool_state::LISTS;
+use pool_state::NONE;
+use pool_state::POOL;
+use pool_state::RecordIndex;
 ghost use Rattle.image_parts.specs.Layout.{current};
-ghost use Rattle.state.specs.Lent.{was, is};
+ghost use Rattle.pool_state.specs.Lent.{was, is};
 ghost use Rattle.image_calls.specs.Lists.{BatchOver, HeldIn};
 
 const INVALID_REQUEST: i64 = -4;

@@ -1,7 +1,7 @@
 -- When the fields of a layout can hold its own numbers. Assumes nothing.
 use Prim.Native.Nat.{_^_, _<_, _≤_}
 use native.Mathlib.Omega.{arith}
-use Rattle.lists.specs.Links.{none}
+use Rattle.linked_lists.specs.Links.{none}
 use Rattle.image_parts.specs.Layout.{Layout, current, noLink, lengthAt, lengthSize, restSize}
 
 -- the version, the length of the rest, and the number of each record in a link's bytes

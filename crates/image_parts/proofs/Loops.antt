@@ -13,8 +13,8 @@ use lib.Seq.{take-suc-set, take-all, take-at}
 use borrow.Author.Tests.{le-leb, lt-leb, leb-true}
 use borrow.Rule.Slice.PartMut.{putMid}
 use Rattle.bytes_be.specs.Numbers.{number}
-use Rattle.lists.specs.Links.{tab}
-use Rattle.lists.proofs.Laws.{same?, true≢false}
+use Rattle.linked_lists.specs.Links.{tab}
+use Rattle.linked_lists.proofs.Laws.{same?, true≢false}
 use Rattle.image_parts.specs.Written.{joined}
 use Rattle.image_parts.specs.Read.{bits}
 

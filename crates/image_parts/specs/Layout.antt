@@ -1,7 +1,7 @@
 -- Where each field stands in an image. A version of the layout has its number of records and of bytes of a link. Assumes nothing.
 use Prim.Native.Nat.{ℕ, _+_, _-_, _*_, _^_}
 use Rattle.rules.specs.Rules.{sizeLists}
-use Rattle.state.specs.Shown.{pool}
+use Rattle.pool_state.specs.Shown.{pool}
 
 pub record Layout : Type 0 where
   pub version : ℕ

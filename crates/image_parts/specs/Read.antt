@@ -5,7 +5,7 @@ use mathlib.Core.List.{List}
 use lib.Dec.{leb, eqb}
 use lib.ListN.{take, drop, getD}
 use Rattle.bytes_be.specs.Numbers.{number}
-use Rattle.lists.specs.Links.{none, tab}
+use Rattle.linked_lists.specs.Links.{none, tab}
 use Rattle.image_parts.specs.Layout.{Layout, word, noLink}
 
 -- the number in the k bytes from a on

@@ -1,6 +1,6 @@
 // Where each field stands in the image, and in a record's own bytes.
-use state::LISTS;
-use state::POOL;
+use pool_state::LISTS;
+use pool_state::POOL;
 
 pub const VERSION: u64 = 1;
 

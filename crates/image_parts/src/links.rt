@@ -2,8 +2,8 @@
 use crate::layout::LINK;
 use crate::layout::NO_LINK;
 use bytes_be::put_be;
-use state::NONE;
-use state::RecordIndex;
+use pool_state::NONE;
+use pool_state::RecordIndex;
 ghost use mathlib.Core.Path.{_≡_};
 ghost use Prim.Native.Nat.{_*_, _<_, _^_};
 ghost use lib.ListN.{length};

@@ -9,15 +9,15 @@ use native.Mathlib.Omega.{arith}
 use lib.Dec.{eqb}
 use lib.ListN.{length, getD, replicate}
 use borrow.Author.Tests.{eq-eqb, ne-eqb, eqb-true, le-leb}
-use Rattle.lists.specs.Links.{none}
-use Rattle.lists.proofs.Laws.{same?, true≢false, length-tab}
+use Rattle.linked_lists.specs.Links.{none}
+use Rattle.linked_lists.proofs.Laws.{same?, true≢false, length-tab}
 use Rattle.rules.specs.Rules.{sizeLists, empty}
-use Rattle.state.specs.declared.MemoryAllocator.{MemoryAllocator}
-use Rattle.state.specs.State.{arrays, stateOf}
-use Rattle.state.proofs.States.{at-tab, fresh-state}
-use Rattle.sound.specs.IsSound.{isSound}
-use Rattle.soundness.specs.Paragraph.{Sized, Fresh, Paragraph}
-use Rattle.soundness.proofs.Exact.{paragraph, passes-sound}
+use Rattle.pool_state.specs.declared.MemoryAllocator.{MemoryAllocator}
+use Rattle.pool_state.specs.State.{arrays, stateOf}
+use Rattle.pool_state.proofs.States.{at-tab, fresh-state}
+use Rattle.check_state.specs.IsSound.{isSound}
+use Rattle.check_meaning.specs.Paragraph.{Sized, Fresh, Paragraph}
+use Rattle.check_meaning.proofs.Exact.{paragraph, passes-sound}
 use Rattle.bytes_be.specs.Numbers.{Bytes}
 use Rattle.image_parts.specs.Layout.{Layout, word, noLink, lengthAt, lengthSize, totalAt, firstAt, headsAt, recordsAt, endAt, enabledAt, linksAt, recordSize, recordAt, imageSize, restSize}
 use Rattle.image_parts.specs.Read.{numberIn, linkOf, numbersIn, linksIn, flagsIn, bits}

@@ -6,10 +6,10 @@ use mathlib.Core.Path.{_≡_}
 use lib.Dec.{eqb}
 use lib.ListN.{length}
 use Rattle.rules.specs.Rules.{sizeLists, empty}
-use Rattle.state.specs.Lent.{Lent, was, OfFields, fields, OfLent, turns}
-use Rattle.state.specs.State.{arrays, stateOf}
-use Rattle.state.specs.declared.MemoryAllocator.{MemoryAllocator}
-use Rattle.sound.specs.IsSound.{isSound}
+use Rattle.pool_state.specs.Lent.{Lent, was, OfFields, fields, OfLent, turns}
+use Rattle.pool_state.specs.State.{arrays, stateOf}
+use Rattle.pool_state.specs.declared.MemoryAllocator.{MemoryAllocator}
+use Rattle.check_state.specs.IsSound.{isSound}
 use Rattle.image_parts.specs.Layout.{Layout, word, lengthAt, lengthSize, totalAt, firstAt, headsAt, recordsAt, endAt, enabledAt, linksAt, recordSize, imageSize, restSize}
 use Rattle.image_parts.specs.Read.{numberIn, linkOf, numbersIn, linksIn, flagsIn, bits}
 

@@ -1,5 +1,6 @@
 // An image, read into lent fields.
 use bytes_be::read_be;
+use check_state::is_sound_in;
 use image_parts::layout::FIRST;
 use image_parts::layout::HEADS;
 use image_parts::layout::IMAGE;
@@ -11,14 +12,13 @@ use image_records::numbers::link_in;
 use image_records::numbers::read_links;
 use image_records::numbers::word_in;
 use image_records::records::read_records;
-use sound::is_sound_in;
-use state::LISTS;
-use state::POOL;
-use state::RecordIndex;
+use pool_state::LISTS;
+use pool_state::POOL;
+use pool_state::RecordIndex;
 ghost use mathlib.Core.Path.{_≡_};
 ghost use Rattle.image_parts.specs.Layout.{current};
-ghost use Rattle.state.specs.Lent.{was};
-ghost use Rattle.state.specs.Shown.{pool};
+ghost use Rattle.pool_state.specs.Lent.{was};
+ghost use Rattle.pool_state.specs.Shown.{pool};
 ghost use Rattle.image_reading.specs.Reading.{headed, FreshFields, ReadsFields};
 
 // Whether length, version and length field are right.

@@ -10,9 +10,9 @@ use lib.Dec.{eqb}
 use lib.ListN.{length, set, getD, replicate, length-set}
 use lib.Seq.{getD-set-same, getD-set-other}
 use borrow.Author.Tests.{eq-eqb, ne-eqb, eqb-true}
-use Rattle.lists.specs.Links.{none, tab}
-use Rattle.lists.proofs.Laws.{same?, length-tab, replicate-tab}
-use Rattle.state.proofs.States.{by-tab, at-tab}
+use Rattle.linked_lists.specs.Links.{none, tab}
+use Rattle.linked_lists.proofs.Laws.{same?, length-tab, replicate-tab}
+use Rattle.pool_state.proofs.States.{by-tab, at-tab}
 use Rattle.image_parts.specs.Layout.{Layout, word, noLink, recordsAt, endAt, enabledAt, linksAt, recordSize, recordAt}
 use Rattle.image_parts.specs.Read.{numberIn, linkOf, numbersIn, linksIn, flagsIn}
 use Rattle.image_parts.proofs.Loops.{both}

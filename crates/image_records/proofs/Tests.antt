@@ -7,7 +7,7 @@ use Prim.Native.Nat.{ℕ, _+_, _*_, _≤_}
 use native.Mathlib.Omega.{arith}
 use lib.Dec.{eqb}
 use borrow.Author.Tests.{eq-eqb, ne-eqb}
-use Rattle.lists.proofs.Laws.{same?}
+use Rattle.linked_lists.proofs.Laws.{same?}
 use Rattle.image_parts.specs.Layout.{Layout, word, noLink, endAt, linksAt}
 use Rattle.image_parts.specs.Read.{numberIn}
 use Rattle.image_records.specs.Records.{linkNumberIn, unlinkedAt, freshAt}

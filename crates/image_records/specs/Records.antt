@@ -6,8 +6,8 @@ use mathlib.Core.Path.{_≡_}
 use denote.Ref.{RefT, now}
 use lib.Dec.{eqb}
 use lib.ListN.{getD, replicate}
-use Rattle.lists.specs.Links.{none}
-use Rattle.state.specs.Lent.{Lent, was, is}
+use Rattle.linked_lists.specs.Links.{none}
+use Rattle.pool_state.specs.Lent.{Lent, was, is}
 use Rattle.image_parts.specs.Layout.{Layout, word, noLink, recordsAt, endAt, enabledAt, linksAt, recordSize, recordAt}
 use Rattle.image_parts.specs.Read.{numberIn, linkOf, numbersIn, linksIn, flagsIn}
 use Rattle.image_parts.specs.declared.records.MemoryEntry.{MemoryEntry}

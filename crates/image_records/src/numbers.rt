@@ -9,7 +9,7 @@ ghost use Prim.Native.Nat.{_+_, _*_, _≤_};
 ghost use lib.ListN.{length};
 ghost use Rattle.image_parts.specs.Layout.{current, word, noLink};
 ghost use Rattle.image_parts.specs.Read.{Spaced, numberIn, linksIn};
-ghost use Rattle.state.specs.Lent.{was, is};
+ghost use Rattle.pool_state.specs.Lent.{was, is};
 ghost use Rattle.image_records.specs.Records.{linkNumberIn, linkIn};
 
 // The number in the eight bytes from `at` on.

@@ -9,15 +9,15 @@ use image_parts::layout::NO_LINK;
 use image_parts::layout::RECORD;
 use image_parts::layout::RECORDS;
 use image_parts::records::MemoryEntry;
-use state::Address;
-use state::POOL;
-use state::RecordIndex;
+use pool_state::Address;
+use pool_state::POOL;
+use pool_state::RecordIndex;
 ghost use mathlib.Core.Path.{_≡_};
 ghost use Prim.Native.Nat.{_+_, _*_, _≤_};
 ghost use lib.ListN.{length};
 ghost use Rattle.image_parts.specs.Layout.{current, imageSize, recordSize};
-ghost use Rattle.state.specs.Lent.{was};
-ghost use Rattle.state.specs.Shown.{pool};
+ghost use Rattle.pool_state.specs.Lent.{was};
+ghost use Rattle.pool_state.specs.Shown.{pool};
 ghost use Rattle.image_records.specs.Records.{entryIn, unlinkedAt, freshAt, FreshRecords, ReadsRecords};
 
 // No number of a link is above that of none, so four add up to so much only where each is none.

@@ -12,7 +12,7 @@ use lib.ListN.{length, take, drop, getD, length-append, length-take}
 use lib.Seq.{take-add, drop-drop, drop-at, getD-drop}
 use borrow.Author.Tests.{eq-eqb}
 use borrow.Rule.Slice.PartMut.{putMid}
-use Rattle.lists.proofs.Laws.{true≢false}
+use Rattle.linked_lists.proofs.Laws.{true≢false}
 use Rattle.image_parts.specs.Written.{joined}
 use Rattle.image_parts.proofs.Loops.{Laying, lay-start, lay-next, lay-end}
 

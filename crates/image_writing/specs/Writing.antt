@@ -6,8 +6,8 @@ use mathlib.Core.Logic.{_≢_}
 use mathlib.Core.Path.{_≡_}
 use denote.Ref.{RefT, now}
 use lib.ListN.{getD, take, drop}
-use Rattle.state.specs.Lent.{Lent, was, is}
-use Rattle.state.specs.declared.MemoryAllocator.{MemoryAllocator}
+use Rattle.pool_state.specs.Lent.{Lent, was, is}
+use Rattle.pool_state.specs.declared.MemoryAllocator.{MemoryAllocator}
 use Rattle.image_parts.specs.Layout.{Layout, recordsAt, enabledAt, recordSize, recordAt}
 use Rattle.image_parts.specs.Written.{joined, recordBytes, headBytes}
 use Rattle.image_parts.specs.declared.records.MemoryEntry.{MemoryEntry}

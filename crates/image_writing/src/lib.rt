@@ -5,18 +5,18 @@ use image_parts::layout::RECORD;
 use image_parts::layout::RECORDS;
 use image_parts::records::MemoryEntry;
 use image_parts::records::write_record;
-use state::Address;
-use state::LISTS;
-use state::POOL;
-use state::RecordIndex;
+use pool_state::Address;
+use pool_state::LISTS;
+use pool_state::POOL;
+use pool_state::RecordIndex;
 ghost use mathlib.Core.Bool.{not, _&&_};
 ghost use mathlib.Core.Path.{_≡_};
 ghost use lib.Dec.{eqb};
 ghost use lib.ListN.{length};
 ghost use Rattle.image_parts.specs.Layout.{current, imageSize};
-ghost use Rattle.state.specs.Lent.{was, is};
-ghost use Rattle.state.specs.Shown.{pool};
-ghost use Rattle.state.specs.State.{arrays};
+ghost use Rattle.pool_state.specs.Lent.{was, is};
+ghost use Rattle.pool_state.specs.Shown.{pool};
+ghost use Rattle.pool_state.specs.State.{arrays};
 ghost use Rattle.image_writing.specs.Writing.{Stands, WritesRecords, imageOf};
 
 // Whether a record's bytes stand in the image already: it is not in use, and was not.

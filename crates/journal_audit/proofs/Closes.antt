@@ -7,16 +7,16 @@ use mathlib.Core.Path.{_≡_, refl, sym, ap, _∙_, subst}
 use lib.Dec.{lit<}
 use lib.IntN.{ℤ}
 use borrow.Author.Tests.{lt-ltb}
-use Rattle.lists.specs.Links.{none}
+use Rattle.linked_lists.specs.Links.{none}
 use Rattle.rules.specs.Rules.{top, Book, empty, total, freeAt, Call, Voucher, voucher, step, lastCovering, said, count}
 use Rattle.rules.specs.Sound.{Sound}
-use Rattle.laws.proofs.Kept.{empty-sound}
-use Rattle.laws.proofs.Steps.{step-sound}
-use Rattle.laws.proofs.Outcomes.{outcome}
-use Rattle.engine.specs.Engine.{rules, after, vouchers}
-use Rattle.engine.specs.Demand.{Demand}
-use Rattle.engine.proofs.Obeys.{Obeys}
-use Rattle.engine.proofs.Demand as engine
+use Rattle.rules_laws.proofs.Kept.{empty-sound}
+use Rattle.rules_laws.proofs.Steps.{step-sound}
+use Rattle.rules_laws.proofs.Outcomes.{outcome}
+use Rattle.rules_engine.specs.Engine.{rules, after, vouchers}
+use Rattle.rules_engine.specs.Demand.{Demand}
+use Rattle.rules_engine.proofs.Obeys.{Obeys}
+use Rattle.rules_engine.proofs.Demand as engine
 use Rattle.calls.specs.Calls.{callOf, addressOf, answerOf, signedOf, voucherFrom}
 use Rattle.calls.specs.declared.Answer.{Answer}
 use Rattle.calls.specs.declared.Answer.the-variants.{Accepted, NoEntry, InvalidEntry, NoMemory, InvalidRequest}

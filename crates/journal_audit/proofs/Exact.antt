@@ -8,16 +8,16 @@ use lib.ListN.{length, drop}
 use lib.Seq.{drop-length}
 use native.Mathlib.Omega.{arith}
 use borrow.Author.Tests.{eqb-true, eq-eqb}
-use Rattle.lists.specs.Links.{none}
-use Rattle.lists.proofs.Laws.{true≢false}
+use Rattle.linked_lists.specs.Links.{none}
+use Rattle.linked_lists.proofs.Laws.{true≢false}
 use Rattle.rules.specs.Rules.{top, Book, empty, total, step}
 use Rattle.rules.specs.Sound.{Sound}
-use Rattle.laws.proofs.Lists.{if}
-use Rattle.laws.proofs.Kept.{empty-sound}
-use Rattle.laws.proofs.Steps.{step-sound}
-use Rattle.state.specs.State.{stateOf}
-use Rattle.state.specs.declared.MemoryAllocator.{MemoryAllocator}
-use Rattle.state.proofs.Book.{book-back}
+use Rattle.rules_laws.proofs.Lists.{if}
+use Rattle.rules_laws.proofs.Kept.{empty-sound}
+use Rattle.rules_laws.proofs.Steps.{step-sound}
+use Rattle.pool_state.specs.State.{stateOf}
+use Rattle.pool_state.specs.declared.MemoryAllocator.{MemoryAllocator}
+use Rattle.pool_state.proofs.Book.{book-back}
 use Rattle.calls.specs.Calls.{callOf, addressOf, answerOf, signedOf}
 use Rattle.calls.specs.declared.Answer.{Answer}
 use Rattle.calls.specs.declared.Answer.the-variants.{Accepted, NoEntry, InvalidEntry, NoMemory, InvalidRequest}

@@ -9,15 +9,15 @@ use lib.ListN.{length, take, drop, length-append, length-drop}
 use lib.Seq.{take-append-le, drop-append-le, drop-drop}
 use native.Mathlib.Omega.{arith}
 use borrow.Author.Tests.{le-leb, lt-leb, eq-eqb}
-use Rattle.lists.specs.Links as links
-use Rattle.lists.proofs.Laws.{true≢false}
+use Rattle.linked_lists.specs.Links as links
+use Rattle.linked_lists.proofs.Laws.{true≢false}
 use Rattle.rules.specs.Rules.{Book}
 use Rattle.rules.specs.Sound.{Sound}
-use Rattle.laws.proofs.Lists.{and-r}
-use Rattle.laws.proofs.Steps.{step-sound}
-use Rattle.state.specs.State.{stateOf}
-use Rattle.state.specs.Sound.{bookOf, SoundState}
-use Rattle.state.proofs.Book.{book-back}
+use Rattle.rules_laws.proofs.Lists.{and-r}
+use Rattle.rules_laws.proofs.Steps.{step-sound}
+use Rattle.pool_state.specs.State.{stateOf}
+use Rattle.pool_state.specs.Sound.{bookOf, SoundState}
+use Rattle.pool_state.proofs.Book.{book-back}
 use Rattle.calls.specs.Calls.{callOf}
 use Rattle.calls.specs.declared.Request.the-variants.{Allocate, Reserve, Free}
 use Rattle.memory_allocator.proofs.Steps.{sound-held}

@@ -11,7 +11,7 @@ use lib.Seq.{drop-drop}
 use native.Mathlib.Omega.{arith}
 use borrow.Author.Tests.{eqb-true, eqb-false, eq-eqb}
 use Rattle.rules.specs.Rules.{Book}
-use Rattle.state.specs.State.{stateOf}
+use Rattle.pool_state.specs.State.{stateOf}
 use Rattle.calls.specs.declared.Request.{Request}
 use Rattle.bytes_be.specs.Numbers.{Bytes}
 use Rattle.journal_blocks.specs.Journal.{entry, blockBytes, blocksBytes, blockAt, AllFit}

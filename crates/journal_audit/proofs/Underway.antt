@@ -7,13 +7,13 @@ use lib.Dec.{eqb, ltb}
 use lib.ListN.{length, drop, length-drop}
 use native.Mathlib.Omega.{arith}
 use borrow.Author.Tests.{lt-ltb, le-ltb, ltb-true}
-use Rattle.lists.specs.Links.{none}
+use Rattle.linked_lists.specs.Links.{none}
 use Rattle.rules.specs.Rules.{Book, step}
 use Rattle.rules.specs.Sound.{Sound}
-use Rattle.laws.proofs.Steps.{step-sound}
-use Rattle.state.specs.State.{stateOf}
-use Rattle.state.specs.Sound.{bookOf, SoundState}
-use Rattle.state.proofs.Book.{book-back}
+use Rattle.rules_laws.proofs.Steps.{step-sound}
+use Rattle.pool_state.specs.State.{stateOf}
+use Rattle.pool_state.specs.Sound.{bookOf, SoundState}
+use Rattle.pool_state.proofs.Book.{book-back}
 use Rattle.calls.specs.Calls.{callOf}
 use Rattle.memory_allocator.proofs.Steps.{sound-held}
 use Rattle.journal_blocks.specs.Journal.{blockAt}

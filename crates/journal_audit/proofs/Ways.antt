@@ -9,18 +9,18 @@ use lib.Seq.{take-all}
 use native.Mathlib.Omega.{arith}
 use native.Mathlib.Numerals.{add-one}
 use borrow.Author.Tests.{eqb-true, eq-eqb, ne-eqb, not-true, not-false}
-use Rattle.lists.specs.Links.{none}
+use Rattle.linked_lists.specs.Links.{none}
 use Rattle.rules.specs.Rules.{Book, empty, Call, step}
-use Rattle.laws.proofs.Kept.{empty-sound}
-use Rattle.state.specs.State.{stateOf}
-use Rattle.state.specs.Sound.{bookOf, SoundState}
-use Rattle.state.specs.declared.MemoryAllocator.{MemoryAllocator}
-use Rattle.state.proofs.States.{holds-state}
-use Rattle.state.proofs.Book.{sound-holds}
-use Rattle.soundness.proofs.Exact.{sound-passes}
+use Rattle.rules_laws.proofs.Kept.{empty-sound}
+use Rattle.pool_state.specs.State.{stateOf}
+use Rattle.pool_state.specs.Sound.{bookOf, SoundState}
+use Rattle.pool_state.specs.declared.MemoryAllocator.{MemoryAllocator}
+use Rattle.pool_state.proofs.States.{holds-state}
+use Rattle.pool_state.proofs.Book.{sound-holds}
+use Rattle.check_meaning.proofs.Exact.{sound-passes}
 use Rattle.calls.specs.Calls.{callOf, signedOf}
 use Rattle.calls.specs.declared.Outcome.{Outcome}
-use Rattle.serving.specs.Made.{held, judged, made}
+use Rattle.core_serve.specs.Made.{held, judged, made}
 use Rattle.memory_allocator.proofs.Steps.{sound-held}
 use Rattle.journal_blocks.specs.Bits.{bitsOf}
 use Rattle.journal_blocks.specs.Journal.{version, versioned}

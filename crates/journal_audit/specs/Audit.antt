@@ -6,8 +6,8 @@ use lib.Dec.{eqb}
 use lib.ListN.{length, drop}
 use Rattle.rules.specs.Rules as rules
 use Rattle.rules.specs.Rules.{Book, empty, step}
-use Rattle.state.specs.State.{stateOf}
-use Rattle.state.specs.Sound.{bookOf}
+use Rattle.pool_state.specs.State.{stateOf}
+use Rattle.pool_state.specs.Sound.{bookOf}
 use Rattle.calls.specs.Calls.{callOf, answerOf, signedOf}
 use Rattle.calls.specs.declared.Request.{Request}
 use Rattle.journal_blocks.specs.Bits.{bitsOf}

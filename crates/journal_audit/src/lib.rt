@@ -1,18 +1,18 @@
 // The audit of a journal: its calls are replayed from empty, and each answer is compared with the one that stands in it.
+use core_serve::serve_sound;
 use journal_blocks::Block;
 use journal_blocks::Entry;
 use journal_blocks::answer_bits;
 use journal_blocks::has_version;
 use journal_blocks::read_block;
 use memory_allocator::new;
-use serving::serve_sound;
-use state::MemoryAllocator;
+use pool_state::MemoryAllocator;
 ghost use mathlib.Core.Path.{_≡_};
 ghost use Prim.Native.Nat.{_+_, _<_, _^_};
 ghost use lib.ListN.{length};
-ghost use Rattle.state.specs.Shown.{pool};
-ghost use Rattle.state.specs.Sound.{bookOf, SoundState};
-ghost use Rattle.state.specs.Lent.{was};
+ghost use Rattle.pool_state.specs.Shown.{pool};
+ghost use Rattle.pool_state.specs.Sound.{bookOf, SoundState};
+ghost use Rattle.pool_state.specs.Lent.{was};
 ghost use Rattle.journal_blocks.specs.Journal.{blockAt};
 ghost use Rattle.journal_blocks.specs.declared.Block.the-variants.{Call};
 ghost use Rattle.journal_audit.specs.Audit.{standsAt, judgedBy, auditedOn, begun, verdictOf, auditOf};

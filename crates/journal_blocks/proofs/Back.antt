@@ -8,8 +8,8 @@ use lib.ListN.{length, take, drop, getD, length-drop, take-append-drop, drop-of-
 use lib.Seq.{drop-drop, getD-drop, drop-cons}
 use native.Mathlib.Omega.{arith}
 use borrow.Author.Tests.{eqb-true, leb-true, eq-eqb, ne-eqb}
-use Rattle.lists.proofs.Laws.{true≢false}
-use Rattle.laws.proofs.Lists.{and-r}
+use Rattle.linked_lists.proofs.Laws.{true≢false}
+use Rattle.rules_laws.proofs.Lists.{and-r}
 use Rattle.bytes_be.specs.Numbers.{be, number, Bytes}
 use Rattle.image_parts.specs.Read.{numberIn}
 use Rattle.image_parts.proofs.Places.{beside, again, part-below, joined-take}

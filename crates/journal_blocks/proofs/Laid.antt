@@ -7,7 +7,7 @@ use native.Mathlib.Omega.{arith}
 use Rattle.bytes_be.specs.Numbers.{be}
 use Rattle.bytes_be.proofs.Laws.{length-be}
 use Rattle.image_parts.proofs.Parts.{length-joined}
-use Rattle.texts.specs.Answers.{Puts}
+use Rattle.script_texts.specs.Answers.{Puts}
 use Rattle.calls.specs.declared.Request.{Request}
 use Rattle.journal_blocks.specs.Journal.{kindOf, numbersOf, wordBytes, laidOut, blockBytes}
 use Rattle.journal_blocks.specs.declared.Entry.{Entry}

@@ -9,8 +9,8 @@ use lib.ListN.{length, take, drop, getD, length-append, length-drop, take-append
 use lib.Seq.{drop-at, drop-drop, getD-drop, drop-cons, take-all}
 use native.Mathlib.Omega.{arith}
 use borrow.Author.Tests.{le-leb, eqb-true}
-use Rattle.lists.proofs.Laws.{true≢false}
-use Rattle.laws.proofs.Lists.{and-l, and-r}
+use Rattle.linked_lists.proofs.Laws.{true≢false}
+use Rattle.rules_laws.proofs.Lists.{and-l, and-r}
 use Rattle.bytes_be.specs.Numbers.{be, number, Bytes}
 use Rattle.bytes_be.proofs.Laws.{length-be, number-be}
 use Rattle.image_parts.specs.Read.{numberIn}

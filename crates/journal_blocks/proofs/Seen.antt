@@ -8,7 +8,7 @@ use lib.ListN.{length, take, drop, getD, length-append, take-append-drop}
 use lib.Seq.{take-append-le, drop-append-le, take-all}
 use native.Mathlib.Omega.{arith}
 use borrow.Author.Tests.{le-leb, lt-leb, eq-eqb}
-use Rattle.laws.proofs.Lists.{if}
+use Rattle.rules_laws.proofs.Lists.{if}
 use Rattle.bytes_be.specs.Numbers.{be, number, Bytes}
 use Rattle.bytes_be.proofs.Laws.{length-be, number-be}
 use Rattle.image_parts.specs.Written.{joined}

@@ -8,7 +8,7 @@ use lib.ListN.{length, take, drop, length-drop, drop-of-length-le}
 use lib.Seq.{take-all}
 use native.Mathlib.Omega.{arith}
 use borrow.Author.Tests.{le-leb, lt-leb, leb-true, eqb-true, eq-eqb, ne-eqb, not-true, not-false}
-use Rattle.lists.proofs.Laws.{true≢false}
+use Rattle.linked_lists.proofs.Laws.{true≢false}
 use Rattle.image_parts.specs.Read.{numberIn}
 use Rattle.journal_blocks.specs.Journal.{lengthOf, isLength, isKind, sizeIn, kindIn, wordIn, entryIn, entry, wholeBlock, blockOf, blockAt}
 use Rattle.journal_blocks.specs.declared.Entry.{Entry}

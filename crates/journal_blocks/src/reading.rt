@@ -9,12 +9,12 @@ use batch::FREE;
 use batch::RESERVE;
 use bytes_be::read_be;
 use calls::Request;
-use state::Address;
+use pool_state::Address;
 ghost use mathlib.Core.Bool.{true};
 ghost use mathlib.Core.Path.{_≡_};
 ghost use Prim.Native.Nat.{_+_, _*_, _^_, _≤_, _<_};
 ghost use lib.ListN.{length};
-ghost use Rattle.state.specs.Lent.{was};
+ghost use Rattle.pool_state.specs.Lent.{was};
 ghost use Rattle.journal_blocks.specs.Journal.{lengthOf, isKind, isLength, wordIn, entryIn, wholeBlock, blockOf};
 
 // The lengths that calls have: with two numbers, and with three.

@@ -3,8 +3,8 @@ use bytes_be::put_be;
 ghost use mathlib.Core.Path.{_≡_};
 ghost use Prim.Native.Nat.{_+_, _*_, _≤_};
 ghost use lib.ListN.{length};
-ghost use Rattle.state.specs.Lent.{was, is};
-ghost use Rattle.texts.specs.Answers.{Puts};
+ghost use Rattle.pool_state.specs.Lent.{was, is};
+ghost use Rattle.script_texts.specs.Answers.{Puts};
 ghost use Rattle.journal_blocks.specs.Journal.{wordBytes, laidOut};
 
 // Where the call byte stands, and where the numbers begin.

@@ -8,8 +8,8 @@ use lib.ListN.{length, getD, drop, length-drop}
 use lib.Seq.{sets, sets-eq}
 use native.Mathlib.Omega.{arith}
 use borrow.Author.Tests.{leb-true, leb-false, le-leb, lt-leb}
-use Rattle.lists.proofs.Laws.{true≢false}
-use Rattle.texts.specs.Answers.{fits, written, past, Puts}
+use Rattle.linked_lists.proofs.Laws.{true≢false}
+use Rattle.script_texts.specs.Answers.{fits, written, past, Puts}
 use Rattle.calls.specs.Calls.{signedOf}
 use Rattle.calls.specs.declared.Answer.the-variants.{InvalidEntry, InvalidRequest}
 use Rattle.calls.specs.declared.Request.{Request}

@@ -6,7 +6,7 @@ use mathlib.Core.Path.{_≡_}
 use lib.Dec.{leb}
 use lib.IntN.{ℤ, pos}
 use lib.ListN.{length, drop}
-use Rattle.texts.specs.Answers.{fits, written}
+use Rattle.script_texts.specs.Answers.{fits, written}
 use Rattle.calls.specs.Calls.{signedOf}
 use Rattle.calls.specs.declared.Answer.the-variants.{InvalidEntry, InvalidRequest}
 use Rattle.batch.specs.InWords.{wordsOf}

@@ -6,7 +6,7 @@ use mathlib.Core.Path.{_≡_, refl, ap, _∙_}
 use lib.ListN.{length, take, drop, length-append, length-take, length-drop}
 use native.Mathlib.Omega.{arith}
 use borrow.Author.Tests.{leb-true}
-use Rattle.texts.specs.Answers.{fits, written, past, Puts}
+use Rattle.script_texts.specs.Answers.{fits, written, past, Puts}
 
 pub within : (t l : List ℕ) (at : ℕ) (m : List ℕ) (r : ℕ) → at ≤ length l → Puts t l at m r → r ≤ length m
 unfolding written past

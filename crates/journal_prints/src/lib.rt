@@ -3,13 +3,13 @@ use calls::Request;
 use journal_audit::Verdict;
 use journal_blocks::Entry;
 use libc::STDOUT_FILENO;
+use script_texts::put_bytes;
+use script_texts::put_number;
 use streams::write_all;
-use texts::put_bytes;
-use texts::put_number;
 ghost use mathlib.Core.Path.{_≡_};
 ghost use Prim.Native.Nat.{_-_, _≤_};
 ghost use lib.ListN.{length};
-ghost use Rattle.state.specs.Lent.{is};
+ghost use Rattle.pool_state.specs.Lent.{is};
 
 // A word and a number, as a line.
 fn put_line(out: &mut [u8], word: &[u8], number: u64) -> usize

@@ -6,7 +6,7 @@ use native.Mathlib.Nat.{mod-lt}
 use native.Mathlib.Numerals.{add-one}
 use lib.Dec.{leb, lit<}
 use lib.ListN.{length, length-set}
-use Rattle.laws.proofs.Lists.{if}
+use Rattle.rules_laws.proofs.Lists.{if}
 use Rattle.mapper_laws.specs.Tree.{pageOf}
 use Rattle.mapper_laws.specs.Arena.{stored, cleared}
 

@@ -7,7 +7,7 @@ use Prim.Native.Nat.{ℕ, zero, suc, _+_, _*_, _≤_, _<_}
 use native.Mathlib.Omega.{arith}
 use native.Mathlib.Nat.{mod-eq-of-lt}
 use lib.Dec.{ltb, ltb→lt, nltb→le}
-use Rattle.laws.proofs.Lists.{T-or-not}
+use Rattle.rules_laws.proofs.Lists.{T-or-not}
 use Rattle.mapper_rules.specs.Walk.{span}
 use Rattle.mapper_laws.specs.declared.Mapping.{Mapping}
 use Rattle.mapper_laws.specs.Tree.{Entry, Ends, Leads, table, joined, sum, tables, In, Once}

@@ -9,7 +9,7 @@ use native.Mathlib.Nat.{div-add-mod, mod-lt}
 use lib.Dec.{T, leb, ltb, eqb, leb→le, ltb→lt, le→leb, lt→ltb, nltb→le, eqb→eq, eqb-refl, lit<}
 use lib.ListN.{length, List·getD-eq-default}
 use lib.Seq.{getD-set-same, getD-set-other, set-out}
-use Rattle.laws.proofs.Lists.{and-i, and-l, and-r, same-test, T-or-not, T-true, T-false, neq}
+use Rattle.rules_laws.proofs.Lists.{and-i, and-l, and-r, same-test, T-or-not, T-true, T-false, neq}
 use Rattle.mapper_laws.specs.Arena.{shows, stored, cleared}
 use Rattle.mapper_laws.proofs.Apart.{in-page}
 

@@ -3,7 +3,7 @@ use mathlib.Core.Bool.{Bool, true, false, not, _||_}
 use Prim.Native.Nat.{ℕ, _+_, _%_, _≤_, _<_}
 use native.Mathlib.Omega.{arith}
 use lib.Dec.{T, ltb, eqb, eqb→eq, nltb→le, lit<}
-use Rattle.laws.proofs.Lists.{neq}
+use Rattle.rules_laws.proofs.Lists.{neq}
 use Rattle.mapper_rules.specs.Walk.{inputTop}
 use Rattle.mapper_rules.specs.Numbers.{unaligned, outputTop, badRegisters, badRange, badNumbers}
 use Rattle.mapper_laws.specs.Mapping.{permissionOf, mappingOf, Sane}

@@ -7,7 +7,7 @@ use native.Mathlib.Omega.{arith}
 use native.Mathlib.Nat.{mod-eq-of-lt}
 use lib.Dec.{eqb, eqb→eq}
 use Rattle.mapper_rules.specs.Walk.{span}
-use Rattle.laws.proofs.Lists.{T-or-not, neq}
+use Rattle.rules_laws.proofs.Lists.{T-or-not, neq}
 use Rattle.mapper_laws.specs.declared.Mapping.{Mapping}
 use Rattle.mapper_laws.specs.Tree.{Entry, Ends, Leads, table, sum}
 use Rattle.mapper_laws.specs.Mapping.{meets, opens, leafWord, tableWord, wants, mapped}

@@ -8,7 +8,7 @@ use native.Mathlib.Nat.{div-add-mod', mod-mod, mul-mod-left}
 use lib.Arith.{digits-mod}
 use lib.Dec.{T, lit≤, lit<, leb, ltb, eqb, leb→le, ltb→lt, eqb→eq, le→leb, lt→ltb}
 use Rattle.mapper_rules.specs.Walk.{span, Fault, isBlock, leaf}
-use Rattle.laws.proofs.Lists.{if, and-l, and-r, and-i, not-and, T-no, T-or-not, T-true, T-false, neq}
+use Rattle.rules_laws.proofs.Lists.{if, and-l, and-r, and-i, not-and, T-no, T-or-not, T-true, T-false, neq}
 use Rattle.mapper_laws.specs.declared.Mapping.{Mapping}
 use Rattle.mapper_laws.specs.Tree.{Entry, Ends, Leads, walkEntry, some, sum}
 use Rattle.mapper_laws.specs.Mapping.{Sane, inRange, outputOf, asked, meets, fits, opens, leafWord, wants, blocked, mapped}

@@ -8,7 +8,7 @@ use native.Mathlib.Omega.{arith}
 use native.Mathlib.Nat.{mod-eq-of-lt, div-add-mod', add-mul-div-left, zero-add, le-refl}
 use lib.Arith.{digits-div}
 use lib.Dec.{T, leb, ltb, eqb, leb→le, ltb→lt, nltb→le, le→leb, lt→ltb, eqb→eq, lit<}
-use Rattle.laws.proofs.Lists.{and-i, and-l, and-r, T-or-not, T-no, T-true, T-false, neq}
+use Rattle.rules_laws.proofs.Lists.{and-i, and-l, and-r, T-or-not, T-no, T-true, T-false, neq}
 use Rattle.mapper_rules.specs.Walk.{span, isTable, walkFrom, walk, inputTop, topHeight, topTable}
 use Rattle.mapper_rules.specs.Numbers.{topEntries, topBytes}
 use Rattle.mapper_laws.specs.declared.Mapping.{Mapping}

@@ -5,7 +5,7 @@ use mathlib.Core.List.{List, [], _∷_, _++_}
 use Prim.Native.Nat.{ℕ, zero, suc, _+_, _<_}
 use native.Mathlib.Omega.{arith}
 use lib.Dec.{eqb, eqb→eq}
-use Rattle.laws.proofs.Lists.{T-or-not, neq}
+use Rattle.rules_laws.proofs.Lists.{T-or-not, neq}
 use Rattle.mapper_laws.specs.Tree.{Entry, Ends, Leads, joined, tables, In, Once}
 use Rattle.mapper_laws.proofs.Apart.{Has, Apart}
 

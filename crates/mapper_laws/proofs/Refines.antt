@@ -7,7 +7,7 @@ use native.Mathlib.Omega.{arith}
 use native.Mathlib.Nat.{mod-lt, mod-eq-of-lt}
 use lib.Dec.{T, eqb, eqb→eq, eqb-refl, lit<, lit≤}
 use Rattle.mapper_rules.specs.Walk.{span, isTable}
-use Rattle.laws.proofs.Lists.{if, T-or-not, T-true, T-false, neq}
+use Rattle.rules_laws.proofs.Lists.{if, T-or-not, T-true, T-false, neq}
 use Rattle.mapper_laws.specs.declared.Mapping.{Mapping}
 use Rattle.mapper_laws.specs.Tree.{Entry, Ends, Leads, table, sum, leadsTo}
 use Rattle.mapper_laws.specs.Mapping.{meets, opens, leafWord, tableWord, wants, mapped}

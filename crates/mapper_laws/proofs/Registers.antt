@@ -6,7 +6,7 @@ use Prim.Native.Nat.{ℕ, zero, suc, _-_, _*_, _/_, _%_, _^_, _≤_, _<_}
 use native.Mathlib.Omega.{arith}
 use native.Mathlib.Nat.{mod-lt, mul-mod-left, mul-assoc}
 use lib.Dec.{T, leb, ltb, eqb, leb→le, eqb→eq, lit<}
-use Rattle.laws.proofs.Lists.{and-l, and-r, T-or-not, neq}
+use Rattle.rules_laws.proofs.Lists.{and-l, and-r, T-or-not, neq}
 use Rattle.mapper_rules.specs.Walk.{span, inputTop, topHeight, topTable, sl0, t0sz}
 use Rattle.mapper_rules.specs.Numbers.{badLevel, topEntries, topBytes, badRegisters}
 use Rattle.mapper_laws.proofs.Spans.{multiple}

@@ -8,7 +8,7 @@ use lib.Arith.{digits-mod}
 use lib.Pow.{pow-add}
 use lib.Dec.{T, leb, eqb, eqb→eq, lit<, eqb·suc-zero}
 use Rattle.mapper_rules.specs.Walk.{span, Translation, Fault, isTable, isBlock, tableAt, leaf, walkFrom}
-use Rattle.laws.proofs.Lists.{and-r, not-and}
+use Rattle.rules_laws.proofs.Lists.{and-r, not-and}
 use Rattle.mapper_laws.specs.declared.Mapping.{Mapping}
 use Rattle.mapper_laws.specs.Tree.{Entry, Ends, Leads, table, memory, pageOf, walkEntry, leadsTo}
 use Rattle.mapper_laws.specs.Mapping.{Sane, inRange, outputOf, asked, meets, fits, opens, leafWord, tableWord, blocked}

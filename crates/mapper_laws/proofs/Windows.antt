@@ -7,7 +7,7 @@ use Prim.Native.Nat.{ℕ, _+_, _*_, _/_, _<_}
 use native.Mathlib.Omega.{arith}
 use native.Mathlib.Nat.{div-add-mod', mod-lt, div-lt-iff-lt-mul}
 use lib.Dec.{T, leb, ltb, eqb, le→leb, lt→ltb, eqb→eq, eqb-refl}
-use Rattle.laws.proofs.Lists.{if, and-l, and-r, and-i, T-no, T-or-not, T-true, T-false}
+use Rattle.rules_laws.proofs.Lists.{if, and-l, and-r, and-i, T-no, T-or-not, T-true, T-false}
 use Rattle.mapper_laws.specs.Tree.{In, Once}
 use Rattle.mapper_laws.specs.Marks.{inWindow, part, Marks, marking, fine, marks}
 

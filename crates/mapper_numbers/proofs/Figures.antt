@@ -7,8 +7,8 @@ use lib.Arith.{digits-div}
 use lib.Pow.{pow-add}
 use lib.Dec.{T, ltb, eqb, eqb→eq, nltb→le, lit<}
 use borrow.Author.Tests.{lt-ltb, le-ltb}
-use Rattle.align.proofs.Rounding.{power-pos, shift-is}
-use Rattle.laws.proofs.Lists.{if}
+use Rattle.rounding.proofs.Rounding.{power-pos, shift-is}
+use Rattle.rules_laws.proofs.Lists.{if}
 use Rattle.mapper_laws.proofs.Registers.{every, of-fields, entries, sized}
 use Rattle.mapper_rules.specs.Walk.{span, sl0, t0sz}
 use Rattle.mapper_rules.specs.Numbers.{topBytes}

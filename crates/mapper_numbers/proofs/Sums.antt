@@ -6,7 +6,7 @@ use Prim.Native.Nat.{ℕ, _+_, _-_, _≤_, _<_}
 use native.Mathlib.Omega.{arith}
 use lib.Dec.{ltb, ltb→lt, lt→ltb}
 use borrow.Author.Tests.{lt-ltb}
-use Rattle.laws.proofs.Lists.{same-test}
+use Rattle.rules_laws.proofs.Lists.{same-test}
 
 pub beyond : (x a b : ℕ) → x < a → true ≡ ltb x (a + b)
 beyond x a b h = sym (lt-ltb x (a + b) (omega arith))

@@ -7,7 +7,7 @@ use native.Mathlib.Omega.{arith}
 use native.Mathlib.Nat.{pow-le-pow-right}
 use lib.Dec.{ltb, leb, ltb→lt, nltb→le, lit≤}
 use borrow.Author.Tests.{lt-ltb, le-ltb}
-use Rattle.laws.proofs.Lists.{T-or-not}
+use Rattle.rules_laws.proofs.Lists.{T-or-not}
 use Rattle.mapper_rules.specs.Walk.{span}
 use Rattle.mapper_words.specs.Heights.{capped}
 

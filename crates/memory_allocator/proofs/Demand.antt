@@ -1,16 +1,16 @@
 -- The calls by value obey the rules, so demand 3 holds of them: from the empty allocator of n records, after any list of calls. Assumes nothing.
 use Prim.Native.Nat.{ℕ, _≤_}
 use mathlib.Core.Path.{_≡_, refl, sym, ap, _∙_, subst}
-use Rattle.lists.specs.Links.{none}
-use Rattle.engine.specs.Demand.{Demand}
-use Rattle.engine.proofs.Obeys.{Obeys}
-use Rattle.engine.proofs.Demand as engine
-use Rattle.state.specs.State.{stateOf}
-use Rattle.state.specs.Sound.{bookOf, SoundState}
-use Rattle.state.specs.declared.MemoryAllocator.{MemoryAllocator}
-use Rattle.state.proofs.Book.{book-back}
+use Rattle.linked_lists.specs.Links.{none}
+use Rattle.rules_engine.specs.Demand.{Demand}
+use Rattle.rules_engine.proofs.Obeys.{Obeys}
+use Rattle.rules_engine.proofs.Demand as engine
+use Rattle.pool_state.specs.State.{stateOf}
+use Rattle.pool_state.specs.Sound.{bookOf, SoundState}
+use Rattle.pool_state.specs.declared.MemoryAllocator.{MemoryAllocator}
+use Rattle.pool_state.proofs.Book.{book-back}
 use Rattle.calls.specs.Calls.{voucherOf}
-use Rattle.serving.specs.Made.{made}
+use Rattle.core_serve.specs.Made.{made}
 use Rattle.calls.specs.declared.Outcome.{Outcome}
 use Rattle.memory_allocator.specs.States.{states}
 use Rattle.memory_allocator.proofs.Steps.{sound-held, made-held, made-voucher}

@@ -3,17 +3,17 @@ use Prim.Native.Nat.{ℕ, _≤_}
 use mathlib.Core.Bool.{Bool, true, false}
 use mathlib.Core.Logic.{_≢_}
 use mathlib.Core.Path.{_≡_, refl, sym, ap, _∙_}
-use Rattle.lists.specs.Links.{none}
+use Rattle.linked_lists.specs.Links.{none}
 use Rattle.rules.specs.Rules.{Book, Answer, Call, step}
-use Rattle.laws.proofs.Outcomes.{Outcome, refusal, took, gave, outcome}
-use Rattle.state.specs.State.{stateOf}
-use Rattle.state.specs.Sound.{bookOf}
-use Rattle.state.specs.declared.MemoryAllocator.{MemoryAllocator}
-use Rattle.sound.specs.IsSound.{isSound}
-use Rattle.soundness.specs.Paragraph.{Sized}
-use Rattle.soundness.proofs.Exact.{passes-sound}
+use Rattle.rules_laws.proofs.Outcomes.{Outcome, refusal, took, gave, outcome}
+use Rattle.pool_state.specs.State.{stateOf}
+use Rattle.pool_state.specs.Sound.{bookOf}
+use Rattle.pool_state.specs.declared.MemoryAllocator.{MemoryAllocator}
+use Rattle.check_state.specs.IsSound.{isSound}
+use Rattle.check_meaning.specs.Paragraph.{Sized}
+use Rattle.check_meaning.proofs.Exact.{passes-sound}
 use Rattle.calls.specs.Calls.{numberOf}
-use Rattle.serving.specs.Made.{made, judged}
+use Rattle.core_serve.specs.Made.{made, judged}
 use Rattle.calls.specs.declared.Outcome as result
 
 refused-book : (n : ℕ) (b : Book) (c : Call) (w : Answer) → Outcome n b c w → w .number ≢ 0 → w .book ≡ b

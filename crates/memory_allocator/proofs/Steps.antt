@@ -2,20 +2,20 @@
 use Prim.Native.Nat.{ℕ, _≤_}
 use mathlib.Core.Bool.{true}
 use mathlib.Core.Path.{_≡_, ap, _∙_}
-use Rattle.lists.specs.Links.{none}
+use Rattle.linked_lists.specs.Links.{none}
 use Rattle.rules.specs.Rules.{Book, Answer, Call, step, voucher}
 use Rattle.rules.specs.Sound.{Sound}
-use Rattle.laws.proofs.Outcomes.{outcome}
-use Rattle.state.specs.State.{stateOf}
-use Rattle.state.specs.Sound.{SoundState}
-use Rattle.state.proofs.States.{state-holds}
-use Rattle.state.proofs.Book.{book-back, holds-sound}
-use Rattle.sound.specs.IsSound.{isSound}
-use Rattle.soundness.proofs.Exact.{sound-passes}
+use Rattle.rules_laws.proofs.Outcomes.{outcome}
+use Rattle.pool_state.specs.State.{stateOf}
+use Rattle.pool_state.specs.Sound.{SoundState}
+use Rattle.pool_state.proofs.States.{state-holds}
+use Rattle.pool_state.proofs.Book.{book-back, holds-sound}
+use Rattle.check_state.specs.IsSound.{isSound}
+use Rattle.check_meaning.proofs.Exact.{sound-passes}
 use Rattle.calls.specs.Calls.{voucherOf}
 use Rattle.calls.specs.declared.Outcome.{Outcome}
 use Rattle.calls.proofs.Numbers.{numbered}
-use Rattle.serving.specs.Made.{held, judged, made}
+use Rattle.core_serve.specs.Made.{held, judged, made}
 
 module _ (n : ℕ) (small : n ≤ none) where
   pub sound-held : (b : Book) → Sound n b → SoundState n (stateOf n b)

@@ -1,9 +1,9 @@
 -- What each call answers and leaves, for every state. n is the number of records. Assumes nothing.
 use Prim.Native.Nat.{ℕ}
 use Rattle.rules.specs.Rules as rules
-use Rattle.state.specs.declared.MemoryAllocator.{MemoryAllocator}
+use Rattle.pool_state.specs.declared.MemoryAllocator.{MemoryAllocator}
 use Rattle.calls.specs.declared.Outcome.{Outcome}
-use Rattle.serving.specs.Made.{judged}
+use Rattle.core_serve.specs.Made.{judged}
 
 abbrev pub allocateOf : ℕ → MemoryAllocator → ℕ → ℕ → Outcome
 allocateOf n s z o = judged n (rules.allocate n z o) s

@@ -1,12 +1,12 @@
 -- The allocator by value, as an engine: what a call answers and leaves, and what is read off a state. n is the number of records. Assumes nothing.
 use Prim.Native.Nat.{ℕ}
 use Rattle.rules.specs.Rules.{empty}
-use Rattle.engine.specs.Engine.{Engine}
-use Rattle.state.specs.State.{stateOf}
-use Rattle.state.specs.Sound.{bookOf, SoundState}
-use Rattle.state.specs.declared.MemoryAllocator.{MemoryAllocator}
+use Rattle.rules_engine.specs.Engine.{Engine}
+use Rattle.pool_state.specs.State.{stateOf}
+use Rattle.pool_state.specs.Sound.{bookOf, SoundState}
+use Rattle.pool_state.specs.declared.MemoryAllocator.{MemoryAllocator}
 use Rattle.calls.specs.Calls.{voucherOf}
-use Rattle.serving.specs.Made.{made}
+use Rattle.core_serve.specs.Made.{made}
 
 abbrev pub states : ℕ → Engine
 states n = record {

@@ -1,19 +1,19 @@
 // The allocator: its state goes in by value and comes back by value. A client takes all from here: the types, the calls, the check of a
 // state, its total and its listing.
-pub use accounts::listing;
-pub use accounts::total;
 pub use calls::Answer;
 pub use calls::Counted;
 pub use calls::Outcome;
 pub use calls::Request;
-pub use serving::serve;
-pub use sound::is_sound;
-pub use state::Address;
-pub use state::MemoryAllocator;
-pub use state::POOL;
-pub use state::new;
+pub use check_state::is_sound;
+pub use core_accounts::listing;
+pub use core_accounts::total;
+pub use core_serve::serve;
+pub use pool_state::Address;
+pub use pool_state::MemoryAllocator;
+pub use pool_state::POOL;
+pub use pool_state::new;
 ghost use mathlib.Core.Path.{_≡_};
-ghost use Rattle.state.specs.Shown.{pool};
+ghost use Rattle.pool_state.specs.Shown.{pool};
 ghost use Rattle.memory_allocator.specs.Promises.{allocateOf, reserveOf, freeOf};
 
 // `size` bytes from a multiple of 2^order.

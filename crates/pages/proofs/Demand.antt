@@ -1,8 +1,8 @@
 -- Demand 3 in pages of the page calls on a state by value. Assumes nothing.
 use Prim.Native.Nat.{ℕ, _≤_}
 use mathlib.Core.Path.{ap}
-use Rattle.lists.specs.Links.{none}
-use Rattle.soundness.proofs.Exact.{sound-sized}
+use Rattle.linked_lists.specs.Links.{none}
+use Rattle.check_meaning.proofs.Exact.{sound-sized}
 use Rattle.calls.specs.declared.Outcome.{Outcome}
 use Rattle.calls.specs.Calls.{voucherOf}
 use Rattle.memory_allocator.specs.States.{states}

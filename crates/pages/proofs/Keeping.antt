@@ -10,9 +10,9 @@ use lib.Pow.{pow-add}
 use lib.Dec.{T, ltb, eqb, nltb→le, eqb→eq, eqb-refl}
 use Rattle.rules.specs.Rules.{Book, Call, Free, Allocate, voucher, refuse, free, step}
 use Rattle.rules.specs.Sound.{Sound}
-use Rattle.laws.proofs.Lists.{if}
-use Rattle.laws.proofs.Multiples.{Blocks, Moves, whole-moves}
-use Rattle.engine.proofs.Multiples.{Each, Keeps}
+use Rattle.rules_laws.proofs.Lists.{if}
+use Rattle.rules_laws.proofs.Multiples.{Blocks, Moves, whole-moves}
+use Rattle.rules_engine.proofs.Multiples.{Each, Keeps}
 use Rattle.pages.specs.Pages.{page, pageOrder, mostPages, bytesOf, raised, freedBytes}
 use Rattle.pages.specs.Calls.{PageCall, AllocatePages, FreePages, byteCall}
 

@@ -8,14 +8,14 @@ use native.Mathlib.Nat.{div-add-mod', mod-lt}
 use lib.Pow.{pow-add}
 use lib.Dec.{T, lit<}
 use Rattle.rules.specs.Rules.{top, listing, Call, Free, Voucher, voucher, step, frees, covers, lastCovering, said, count}
-use Rattle.laws.proofs.Multiples.{Blocks, Moves, block-free, block-covered, count-blocks}
-use Rattle.engine.specs.Engine as engine
-use Rattle.engine.specs.Engine.{Engine, freeIn}
-use Rattle.engine.specs.Demand as bytes
-use Rattle.engine.specs.Demand.{SameFree, SameShelves, Demand}
-use Rattle.engine.proofs.Obeys.{Obeys}
-use Rattle.engine.proofs.Demand.{Stands, stands-next, answer-is, sound, first, left-stands, demand}
-use Rattle.engine.proofs.Multiples.{held-blocks, answer-moves, left-blocks}
+use Rattle.rules_laws.proofs.Multiples.{Blocks, Moves, block-free, block-covered, count-blocks}
+use Rattle.rules_engine.specs.Engine as engine
+use Rattle.rules_engine.specs.Engine.{Engine, freeIn}
+use Rattle.rules_engine.specs.Demand as bytes
+use Rattle.rules_engine.specs.Demand.{SameFree, SameShelves, Demand}
+use Rattle.rules_engine.proofs.Obeys.{Obeys}
+use Rattle.rules_engine.proofs.Demand.{Stands, stands-next, answer-is, sound, first, left-stands, demand}
+use Rattle.rules_engine.proofs.Multiples.{held-blocks, answer-moves, left-blocks}
 use Rattle.pages.specs.Pages.{page, mostPages, bytesOf}
 use Rattle.pages.specs.Calls.{PageCall, AllocatePages, FreePages, byteCall, Door, after, vouchers, firstByte, pageFree, coversPage}
 use Rattle.pages.specs.Demand.{left, SamePages, handingBack, PageDemand}

@@ -5,18 +5,18 @@ use mathlib.Core.Logic.{inl, inr}
 use mathlib.Core.Path.{_≡_, refl, sym, _∙_, ap, subst}
 use native.Mathlib.Omega.{arith}
 use lib.Dec.{T, eqb, ltb, ltb→lt, eqb→eq}
-use Rattle.lists.specs.Links.{none}
+use Rattle.linked_lists.specs.Links.{none}
 use Rattle.rules.specs.Rules as rules
 use Rattle.rules.specs.Rules.{Book, refused}
-use Rattle.laws.proofs.Lists.{if, or-e, or-r, T-no, T-true, T-false}
-use Rattle.state.specs.declared.MemoryAllocator.{MemoryAllocator}
+use Rattle.rules_laws.proofs.Lists.{if, or-e, or-r, T-no, T-true, T-false}
+use Rattle.pool_state.specs.declared.MemoryAllocator.{MemoryAllocator}
 use Rattle.calls.specs.declared.Answer.{Answer}
 use Rattle.calls.specs.declared.Answer.the-variants.{InvalidEntry, InvalidRequest}
-use Rattle.soundness.specs.Paragraph.{Sized}
-use Rattle.soundness.proofs.Exact.{passes-sound}
-use Rattle.serving.specs.Made.{judged}
+use Rattle.check_meaning.specs.Paragraph.{Sized}
+use Rattle.check_meaning.proofs.Exact.{passes-sound}
+use Rattle.core_serve.specs.Made.{judged}
 use Rattle.calls.specs.declared.Outcome.{Outcome}
-use Rattle.serving.proofs.Judged.{unsound-judged}
+use Rattle.core_serve.proofs.Judged.{unsound-judged}
 use Rattle.memory_allocator.specs.Names.{isSound, bookOf, made}
 use Rattle.memory_allocator.specs.Promises.{allocateOf, freeOf}
 use Rattle.pages.specs.Pages.{page, pageOrder, mostPages, badCount, unaligned, raised, refuse, allocatePagesOf, freePagesOf, bytesOf, freedBytes}

@@ -3,7 +3,7 @@ use Prim.Native.Nat.{ℕ, _*_}
 use mathlib.Core.Bool.{Bool}
 use mathlib.Core.List.{List, [], _∷_}
 use Rattle.rules.specs.Rules.{Call, Free, Allocate, Voucher, covers}
-use Rattle.engine.specs.Engine.{Engine, freeIn}
+use Rattle.rules_engine.specs.Engine.{Engine, freeIn}
 use Rattle.pages.specs.Pages.{page, bytesOf, raised, freedBytes}
 
 -- count and order; address and count

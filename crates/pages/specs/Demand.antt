@@ -5,8 +5,8 @@ use mathlib.Core.List.{List}
 use mathlib.Core.Path.{_≡_}
 use lib.Dec.{T}
 use Rattle.rules.specs.Rules.{listing, frees, covers, lastCovering, said, count}
-use Rattle.engine.specs.Engine.{Engine, freeIn}
-use Rattle.engine.specs.Demand.{SameShelves}
+use Rattle.rules_engine.specs.Engine.{Engine, freeIn}
+use Rattle.rules_engine.specs.Demand.{SameShelves}
 use Rattle.pages.specs.Pages.{page, mostPages}
 use Rattle.pages.specs.Calls.{PageCall, AllocatePages, FreePages, byteCall, Door, after, vouchers, firstByte, pageFree, coversPage}
 

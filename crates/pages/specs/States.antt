@@ -1,6 +1,6 @@
 -- The two page calls on a state by value, as a door of the allocator. n is the number of records. Assumes nothing.
 use Prim.Native.Nat.{ℕ}
-use Rattle.state.specs.declared.MemoryAllocator.{MemoryAllocator}
+use Rattle.pool_state.specs.declared.MemoryAllocator.{MemoryAllocator}
 use Rattle.calls.specs.declared.Outcome.{Outcome}
 use Rattle.calls.specs.Calls.{voucherOf}
 use Rattle.memory_allocator.specs.States.{states}

@@ -1,25 +1,25 @@
 // The program that records a journal: the calls of a script, played from empty, each with its answer as a block.
 use calls::Outcome;
-use chunks::hold;
 use journal_blocks::Entry;
 use journal_blocks::answer_bits;
 use journal_blocks::begin;
 use journal_blocks::write_block;
 use libc::STDIN_FILENO;
 use libc::STDOUT_FILENO;
-use lines::find::Found;
-use lines::find::find_newline;
-use lines::parse::Line;
-use lines::parse::parse_line;
 use memory_allocator::MemoryAllocator;
 use memory_allocator::new;
 use memory_allocator::serve;
+use script_chunks::hold;
+use script_lines::find::Found;
+use script_lines::find::find_newline;
+use script_lines::parse::Line;
+use script_lines::parse::parse_line;
 use streams::read_some;
 use streams::write_all;
 ghost use mathlib.Core.Path.{_≡_};
 ghost use Prim.Native.Nat.{_<_, _≤_};
 ghost use lib.ListN.{length};
-ghost use Rattle.state.specs.Lent.{was, is};
+ghost use Rattle.pool_state.specs.Lent.{was, is};
 ghost use Rattle.record.specs.Taping.{Placed};
 
 // The bytes that are kept of a line: one more than a call can have. The bytes of the longest block.

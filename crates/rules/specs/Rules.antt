@@ -1,6 +1,6 @@
 -- The rules of document 01, to be read beside it: what each call answers, and the book that it leaves. n is the number of records.
 -- Requests T-03 and T-06 of document 02 are in force: the last free bytes may be taken, and an allocate keeps looking where a range wants a record that is not there.
--- (A book here is sound; the state that holds it, and the refusal of an unsound one, 2, stand in the crate `state`.) Assumes nothing.
+-- (A book here is sound; the state that holds it, and the refusal of an unsound one, 2, stand in the crate `pool_state`.) Assumes nothing.
 use mathlib.Core.Bool.{Bool, true, false, not, cond, _&&_, _||_}
 use mathlib.Core.List.{List, [], _∷_, _++_, map}
 use mathlib.Core.Option.{Option, none, some}

@@ -6,12 +6,12 @@ use Prim.Native.Nat.{ℕ, _≤_}
 use native.Mathlib.Omega.{arith}
 use lib.ListN.{length, take}
 use lib.Seq.{length-take-le}
-use Rattle.chunks.specs.Input.{Hears, Closes}
-use Rattle.chunks.specs.declared.Reading.{Reading}
+use Rattle.script_chunks.specs.Input.{Hears, Closes}
+use Rattle.script_chunks.specs.declared.Reading.{Reading}
 use Rattle.streams.specs.Streams.{Writes}
 use Rattle.streams.specs.declared.Written.{Written}
-use Rattle.sessions.specs.Sessions.{fresh, HandsOver, Answered, Closed}
-use Rattle.sessions.specs.declared.Session.{Session}
+use Rattle.script_sessions.specs.Sessions.{fresh, HandsOver, Answered, Closed}
+use Rattle.script_sessions.specs.declared.Session.{Session}
 use Rattle.script.specs.Program.{Handed}
 
 pub handed-by : (r : Reading) (k : ℕ) (e : Bool) (w : Written) (out : List ℕ) → r .at ≤ length out → Writes w (length (take (r .at) out))

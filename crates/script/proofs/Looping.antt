@@ -6,11 +6,11 @@ use mathlib.Core.Logic.{_⊎_, inl, inr}
 use Prim.Native.Nat.{ℕ, suc, _+_, _-_, _<_, _≤_}
 use native.Mathlib.Omega.{arith}
 use lib.ListN.{length}
-use Rattle.answering.specs.Script.{room}
-use Rattle.chunks.specs.Input.{kept}
-use Rattle.sessions.specs.Sessions.{begin, goesOn, Prepared, Turned, Run, starts, turns}
-use Rattle.sessions.specs.declared.Session.{Session}
-use Rattle.sessions.proofs.Turns.{prepared-on}
+use Rattle.script_answers.specs.Script.{room}
+use Rattle.script_chunks.specs.Input.{kept}
+use Rattle.script_sessions.specs.Sessions.{begin, goesOn, Prepared, Turned, Run, starts, turns}
+use Rattle.script_sessions.specs.declared.Session.{Session}
+use Rattle.script_sessions.proofs.Turns.{prepared-on}
 use Rattle.script.specs.Program.{enough, Over}
 
 -- so many turns are taken, and so many may follow

@@ -4,9 +4,9 @@ use mathlib.Core.Bool.{Bool, false}
 use mathlib.Core.List.{List}
 use mathlib.Core.Path.{_≡_}
 use mathlib.Core.Logic.{_⊎_}
-use Rattle.chunks.specs.declared.Reading.{Reading}
-use Rattle.sessions.specs.Sessions.{goesOn, HandsOver, Run}
-use Rattle.sessions.specs.declared.Session.{Session}
+use Rattle.script_chunks.specs.declared.Reading.{Reading}
+use Rattle.script_sessions.specs.Sessions.{goesOn, HandsOver, Run}
+use Rattle.script_sessions.specs.declared.Session.{Session}
 
 -- the text of the reading r was handed to the writer
 pub record Handed (r : Reading) (k : ℕ) (e : Bool) (s : Session) : Type 0 where

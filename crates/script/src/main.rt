@@ -1,23 +1,23 @@
 // The script program: calls from standard input, one a line, and their answers to standard output.
-use chunks::Reading;
-use chunks::answer_last;
 use libc::STDIN_FILENO;
 use libc::STDOUT_FILENO;
-use sessions::Session;
-use sessions::afresh;
-use sessions::answer_part;
-use sessions::begun;
-use sessions::goes_on;
-use sessions::restarted;
+use script_chunks::Reading;
+use script_chunks::answer_last;
+use script_sessions::Session;
+use script_sessions::afresh;
+use script_sessions::answer_part;
+use script_sessions::begun;
+use script_sessions::goes_on;
+use script_sessions::restarted;
 use streams::read_some;
 use streams::write_all;
 ghost use Prim.Native.Nat.{_<_, _≤_};
 ghost use lib.ListN.{length};
-ghost use Rattle.state.specs.Shown.{pool};
-ghost use Rattle.state.specs.Lent.{was, is};
-ghost use Rattle.answering.specs.Script.{room};
-ghost use Rattle.chunks.specs.Input.{kept, Ready};
-ghost use Rattle.sessions.specs.Sessions.{fresh, Prepared, Answered, Closed, Turned};
+ghost use Rattle.pool_state.specs.Shown.{pool};
+ghost use Rattle.pool_state.specs.Lent.{was, is};
+ghost use Rattle.script_answers.specs.Script.{room};
+ghost use Rattle.script_chunks.specs.Input.{kept, Ready};
+ghost use Rattle.script_sessions.specs.Sessions.{fresh, Prepared, Answered, Closed, Turned};
 ghost use Rattle.script.specs.Program.{Handed, Over};
 
 // The bytes that are kept of a line: one more than a call can have.

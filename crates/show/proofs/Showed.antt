@@ -5,7 +5,7 @@ use mathlib.Core.List.{List}
 use mathlib.Core.Path.{_≡_, refl, sym, _∙_, subst}
 use lib.ListN.{length, drop, length-drop}
 use native.Mathlib.Omega.{arith}
-use Rattle.lists.proofs.Laws.{true≢false}
+use Rattle.linked_lists.proofs.Laws.{true≢false}
 use Rattle.journal_blocks.specs.Journal.{blockAt}
 use Rattle.journal_blocks.specs.declared.Entry.{Entry}
 use Rattle.journal_blocks.specs.declared.Block.{Block}

@@ -11,7 +11,7 @@ use streams::read_some;
 ghost use mathlib.Core.Path.{_≡_};
 ghost use Prim.Native.Nat.{_+_, _*_, _≤_, _<_, _^_};
 ghost use lib.ListN.{length};
-ghost use Rattle.state.specs.Lent.{was, is};
+ghost use Rattle.pool_state.specs.Lent.{was, is};
 ghost use Rattle.show.specs.Shown.{Came};
 
 // The place of the next block and its index; whether it may be shown at once; whether a fault or a failure has ended it all.

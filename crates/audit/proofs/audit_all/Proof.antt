@@ -5,7 +5,7 @@ use borrow.Author.Needs.{needs}
 use borrow.Author.Tests.{ltb-true}
 use lib.Dec.{lit≤}
 use lib.ListN.{length}
-use Rattle.state.specs.Shown.{pool}
+use Rattle.pool_state.specs.Shown.{pool}
 use Rattle.journal_audit.proofs.Ways.{begun-sound, begun-index}
 use Rattle.audit.specs.Sittings.{Ready}
 use Rattle.audit.proofs.Turns.{more-passed}

@@ -3,7 +3,7 @@ use native.Mathlib.Omega.{arith}
 use lib.Dec.{lit≤}
 use lib.ListN.{take}
 use lib.Seq.{length-take-le}
-use Rattle.state.specs.Shown.{pool}
+use Rattle.pool_state.specs.Shown.{pool}
 use Rattle.audit.proofs.Turns.{Led, led, more-passed}
 use borrow.Author.Needs.{needs}
 use Rattle.audit.proofs.turn.Statement.{statement}

@@ -1,6 +1,6 @@
 use mathlib.Core.Path.{sym, _∙_}
 use borrow.Author.Needs.{needs}
-use Rattle.state.specs.Shown.{pool}
+use Rattle.pool_state.specs.Shown.{pool}
 use Rattle.batch.proofs.Ways.{unsound}
 use Rattle.batch.proofs.serve_list.Statement.{statement}
 use Rattle.batch.proofs.serve_list.Tie as tie

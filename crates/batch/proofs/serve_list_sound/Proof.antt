@@ -1,8 +1,8 @@
 use lib.Dec.{lit≤}
-use Rattle.state.specs.Shown.{pool}
-use Rattle.state.proofs.Book.{sound-holds}
-use Rattle.soundness.proofs.Exact.{passes-sound}
-use Rattle.soundness.proofs.Owned.{owned-sized}
+use Rattle.pool_state.specs.Shown.{pool}
+use Rattle.pool_state.proofs.Book.{sound-holds}
+use Rattle.check_meaning.proofs.Exact.{passes-sound}
+use Rattle.check_meaning.proofs.Owned.{owned-sized}
 use borrow.Author.Needs.{needs}
 use Rattle.batch.proofs.serve_list_sound.Statement.{statement}
 use Rattle.batch.proofs.serve_list_sound.Tie as tie

@@ -1,6 +1,6 @@
 use mathlib.Core.Path.{sym, _∙_}
 use borrow.Author.Needs.{needs}
-use Rattle.state.specs.Shown.{pool}
+use Rattle.pool_state.specs.Shown.{pool}
 use Rattle.batch.proofs.Ways.{unfitted, done}
 use Rattle.batch.proofs.serve_list_unchecked.Statement.{statement}
 use Rattle.batch.proofs.serve_list_unchecked.Tie as tie

@@ -1,7 +1,7 @@
 use mathlib.Core.Path.{ap, _∙_}
-use Rattle.lists.proofs.Laws.{true≢false}
-use Rattle.state.specs.Shown.{pool}
-use Rattle.state.proofs.States.{fresh-state}
+use Rattle.linked_lists.proofs.Laws.{true≢false}
+use Rattle.pool_state.specs.Shown.{pool}
+use Rattle.pool_state.proofs.States.{fresh-state}
 use Rattle.image_parts.specs.Layout.{current}
 use Rattle.image_writing.specs.Writing.{imageOf}
 use Rattle.c_calls.proofs.Ways.{no-room, new-done}

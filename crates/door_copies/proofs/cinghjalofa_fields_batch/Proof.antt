@@ -1,7 +1,7 @@
 use mathlib.Core.Path.{_∙_}
 use mir.Syntax.{w64}
 use mir.Facts.{toZ-ofZ}
-use Rattle.state.specs.Shown.{pool}
+use Rattle.pool_state.specs.Shown.{pool}
 use Rattle.door_copies.proofs.Copies.{list-below, listed}
 use borrow.Author.Needs.{needs}
 use Rattle.door_copies.proofs.cinghjalofa_fields_batch.Statement.{statement}

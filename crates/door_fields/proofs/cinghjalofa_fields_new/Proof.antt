@@ -1,5 +1,5 @@
-use Rattle.state.specs.Shown.{pool}
-use Rattle.state.proofs.States.{fresh-state}
+use Rattle.pool_state.specs.Shown.{pool}
+use Rattle.pool_state.proofs.States.{fresh-state}
 use Rattle.door_fields.proofs.cinghjalofa_fields_new.Statement.{statement}
 use Rattle.door_fields.proofs.cinghjalofa_fields_new.Tie as tie
 

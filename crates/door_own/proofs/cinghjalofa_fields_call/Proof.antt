@@ -1,7 +1,7 @@
 use mathlib.Core.Path.{sym, _∙_}
 use borrow.Author.Needs.{needs}
 use lib.Dec.{lit≤}
-use Rattle.state.specs.Shown.{pool}
+use Rattle.pool_state.specs.Shown.{pool}
 use Rattle.batch.specs.InWords.{ruleOf}
 use Rattle.door_fields.specs.Fields.{askedHere}
 use Rattle.door_own.proofs.Own.{sound-here, unsound-here}

@@ -4,7 +4,7 @@ use lib.Dec.{lit≤}
 use mir.Syntax.{w64}
 use mir.Facts.{toZ-ofZ}
 use Rattle.rules.specs.Rules.{Free, Allocate, Reserve, step}
-use Rattle.state.specs.Shown.{pool}
+use Rattle.pool_state.specs.Shown.{pool}
 use Rattle.batch.proofs.InWords.{free-asked, allocate-asked, reserve-asked, unknown-asked}
 use Rattle.door_own.proofs.Own.{served-here, below-here, unknown-here, asked-as}
 use Rattle.door_own.proofs.cinghjalofa_fields_call_unchecked.Statement.{statement}

@@ -6,7 +6,7 @@ use contract.Running.{givenOf, tables, tablesOf}
 use denote.Triple.Spec.{tripleOf}
 use denote.Triple.Table.{entered, cited}
 use mir.Syntax.{w64}
-use Rattle.state.specs.Shown.{pool}
+use Rattle.pool_state.specs.Shown.{pool}
 use Rattle.memory_allocator.specs.Promises.{allocateOf}
 use Rattle.memory_allocator.proofs.allocate.Symbol as core
 use Rattle.memory_allocator.proofs.allocate.Met as core-thm

@@ -1,6 +1,6 @@
 use mathlib.Core.Path.{sym, _∙_}
-use Rattle.state.specs.Shown.{pool}
-use Rattle.state.proofs.States.{fresh-state}
+use Rattle.pool_state.specs.Shown.{pool}
+use Rattle.pool_state.proofs.States.{fresh-state}
 use Rattle.image_parts.specs.Layout.{current}
 use Rattle.image_calls.proofs.Lists.{no-list}
 use borrow.Author.Needs.{needs}

@@ -2,8 +2,8 @@ use mathlib.Core.Path.{_≡_, refl, sym, ap, _∙_}
 use Prim.Native.Nat.{ℕ}
 use native.Mathlib.Omega.{arith}
 use lib.ListN.{length}
-use Rattle.lists.proofs.Laws.{true≢false}
-use Rattle.state.specs.Shown.{pool}
+use Rattle.linked_lists.proofs.Laws.{true≢false}
+use Rattle.pool_state.specs.Shown.{pool}
 use Rattle.image_parts.specs.Layout.{current, headsAt, imageSize}
 use Rattle.image_parts.specs.Read.{linksIn}
 use Rattle.image_parts.proofs.Lawful.{lawful-current}

@@ -2,7 +2,7 @@ use Prim.Native.Nat.{_+_, _*_, _-_}
 use mathlib.Core.Path.{refl, sym, _∙_}
 use native.Mathlib.Omega.{arith}
 use lib.ListN.{length-take, length-drop}
-use Rattle.state.specs.Shown.{pool}
+use Rattle.pool_state.specs.Shown.{pool}
 use Rattle.image_parts.specs.Layout.{current, recordsAt, enabledAt, recordSize}
 use Rattle.image_parts.specs.Written.{recordBytes}
 use Rattle.image_writing.specs.Writing.{entryOf}

@@ -2,7 +2,7 @@ use Prim.Native.Nat.{_≤_}
 use native.Mathlib.Omega.{arith}
 use lib.Dec.{lit≤}
 use lib.ListN.{length}
-use Rattle.state.specs.Shown.{pool}
+use Rattle.pool_state.specs.Shown.{pool}
 use Rattle.journal_audit.proofs.Ways.{no-version, some-byte, begun-sound, begun-index, part-size, reported}
 use borrow.Author.Needs.{needs}
 use Rattle.journal_audit.proofs.audit.Statement.{statement}

@@ -1,6 +1,6 @@
 use mathlib.Core.Path.{refl}
 use lib.Dec.{lit≤}
-use Rattle.state.specs.Shown.{pool}
+use Rattle.pool_state.specs.Shown.{pool}
 use Rattle.journal_audit.proofs.Ways.{block-judged, fault-judged}
 use borrow.Author.Needs.{needs}
 use Rattle.journal_audit.proofs.audit_block.Statement.{statement}

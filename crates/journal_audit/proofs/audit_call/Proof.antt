@@ -1,6 +1,6 @@
 use lib.Dec.{lit≤}
-use Rattle.state.specs.Shown.{pool}
-use Rattle.soundness.proofs.Exact.{sound-passes}
+use Rattle.pool_state.specs.Shown.{pool}
+use Rattle.check_meaning.proofs.Exact.{sound-passes}
 use Rattle.journal_audit.proofs.Ways.{call-differs, call-agrees}
 use borrow.Author.Needs.{needs}
 use Rattle.journal_audit.proofs.audit_call.Statement.{statement}

@@ -4,7 +4,7 @@ use mathlib.Core.Bool.{cond}
 use native.Mathlib.Omega.{arith}
 use lib.Dec.{lit≤}
 use lib.ListN.{length}
-use Rattle.state.specs.Shown.{pool}
+use Rattle.pool_state.specs.Shown.{pool}
 use Rattle.journal_audit.proofs.Underway.{Underway, Ongoing, underway-start, underway-next, shorter}
 use Rattle.journal_audit.proofs.audit_part.Statement.{statement}
 use Rattle.journal_audit.proofs.audit_part.Tie as tie

@@ -1,5 +1,5 @@
 use mathlib.Core.Path.{ap}
-use Rattle.state.specs.declared.MemoryAllocator.{MemoryAllocator}
+use Rattle.pool_state.specs.declared.MemoryAllocator.{MemoryAllocator}
 use Rattle.journal_audit.specs.declared.Auditing.{Auditing}
 use borrow.Author.Needs.{needs}
 use Rattle.journal_audit.proofs.start_audit.Statement.{statement}

@@ -1,6 +1,6 @@
 use Prim.Native.Nat.{ℕ, _+_, _-_, _%_}
 use lib.Dec.{ltb, lit<}
-use Rattle.align.proofs.Rounding.{power-pos}
+use Rattle.rounding.proofs.Rounding.{power-pos}
 use Rattle.mapper_rules.specs.Walk.{inputTop}
 use Rattle.mapper_rules.specs.Numbers.{outputTop, badRange}
 use mathlib.Core.Path.{sym, _∙_, ap}

@@ -3,7 +3,7 @@ use mathlib.Core.Path.{sym, ap, _∙_}
 use lib.Dec.{lit≤}
 use Rattle.memory_allocator.specs.Names.{pool}
 use Rattle.memory_allocator.specs.Promises.{allocateOf}
-use Rattle.soundness.proofs.Owned.{owned-sized}
+use Rattle.check_meaning.proofs.Owned.{owned-sized}
 use Rattle.pages.specs.Pages.{bytesOf}
 use Rattle.pages.proofs.Same.{allocate-same}
 use borrow.Author.Needs.{needs}

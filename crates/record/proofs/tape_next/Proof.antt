@@ -1,8 +1,8 @@
 use mathlib.Core.Path.{sym, _∙_}
 use native.Mathlib.Omega.{arith}
-use Rattle.state.specs.Shown.{pool}
-use Rattle.chunks.specs.Input.{silent}
-use Rattle.chunks.proofs.Hearing.{end-within}
+use Rattle.pool_state.specs.Shown.{pool}
+use Rattle.script_chunks.specs.Input.{silent}
+use Rattle.script_chunks.proofs.Hearing.{end-within}
 use borrow.Author.Needs.{needs}
 use Rattle.record.proofs.tape_next.Statement.{statement}
 use Rattle.record.proofs.tape_next.Tie as tie

@@ -3,7 +3,7 @@ use mathlib.Core.Logic.{inl, inr}
 use native.Mathlib.Omega.{arith}
 use borrow.Author.Needs.{needs}
 use borrow.Author.Tests.{ltb-true, ltb-false}
-use Rattle.state.specs.Shown.{pool}
+use Rattle.pool_state.specs.Shown.{pool}
 use Rattle.script.proofs.Looping.{Going, going-none, going-on, over}
 use Rattle.script.proofs.answer_all.Statement.{statement}
 use Rattle.script.proofs.answer_all.Tie as tie

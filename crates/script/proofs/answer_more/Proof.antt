@@ -1,7 +1,7 @@
 use mathlib.Core.Path.{sym}
 use lib.Seq.{length-take-le}
-use Rattle.state.specs.Shown.{pool}
-use Rattle.sessions.proofs.Turns.{ready-fresh}
+use Rattle.pool_state.specs.Shown.{pool}
+use Rattle.script_sessions.proofs.Turns.{ready-fresh}
 use Rattle.script.proofs.Handing.{answered-by}
 use borrow.Author.Needs.{needs}
 use Rattle.script.proofs.answer_more.Statement.{statement}

@@ -1,4 +1,4 @@
-use Rattle.state.specs.Shown.{pool}
+use Rattle.pool_state.specs.Shown.{pool}
 use Rattle.script.proofs.Handing.{closed-by}
 use borrow.Author.Needs.{needs}
 use Rattle.script.proofs.close.Statement.{statement}

@@ -1,8 +1,8 @@
 use mathlib.Core.Path.{refl}
 use native.Mathlib.Omega.{arith}
-use Rattle.state.specs.Shown.{pool}
-use Rattle.sessions.specs.Sessions.{closed}
-use Rattle.sessions.proofs.Turns.{took-some, took-none}
+use Rattle.pool_state.specs.Shown.{pool}
+use Rattle.script_sessions.specs.Sessions.{closed}
+use Rattle.script_sessions.proofs.Turns.{took-some, took-none}
 use borrow.Author.Needs.{needs}
 use Rattle.script.proofs.read_more.Statement.{statement}
 use Rattle.script.proofs.read_more.Tie as tie

@@ -1,7 +1,7 @@
 use mathlib.Core.Path.{refl}
-use Rattle.state.specs.Shown.{pool}
-use Rattle.sessions.specs.Sessions.{answered}
-use Rattle.sessions.proofs.Turns.{ready-fresh}
+use Rattle.pool_state.specs.Shown.{pool}
+use Rattle.script_sessions.specs.Sessions.{answered}
+use Rattle.script_sessions.proofs.Turns.{ready-fresh}
 use borrow.Author.Needs.{needs}
 use Rattle.script.proofs.turn.Statement.{statement}
 use Rattle.script.proofs.turn.Tie as tie

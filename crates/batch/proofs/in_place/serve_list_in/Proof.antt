@@ -5,9 +5,9 @@ use lib.Dec.{lit≤}
 use mir.Syntax.{w64}
 use mir.Facts.{toZ-ofZ}
 use lib.ListN.{length, length-set}
-use Rattle.state.specs.Shown.{pool}
-use Rattle.state.specs.State.{arrays}
-use Rattle.state.proofs.Book.{holds-sound}
+use Rattle.pool_state.specs.Shown.{pool}
+use Rattle.pool_state.specs.State.{arrays}
+use Rattle.pool_state.proofs.Book.{holds-sound}
 use Rattle.batch.specs.InWords.{asked}
 use Rattle.batch.proofs.InWords.{asked-length}
 use Rattle.batch.proofs.Going.{Going, going-start, going-holds, going-below, going-on, going-end, going-room}

@@ -1,7 +1,7 @@
 use mathlib.Core.Path.{_≡_, refl, subst}
 use Rattle.rules.specs.Rules.{Book, step}
-use Rattle.state.specs.Shown.{pool}
-use Rattle.state.specs.declared.MemoryAllocator.{MemoryAllocator}
+use Rattle.pool_state.specs.Shown.{pool}
+use Rattle.pool_state.specs.declared.MemoryAllocator.{MemoryAllocator}
 use Rattle.calls.specs.Answers.{Answers}
 use Rattle.calls.specs.declared.Answer.{Answer}
 use borrow.Author.Needs.{needs}

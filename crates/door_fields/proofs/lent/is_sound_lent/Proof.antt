@@ -1,6 +1,6 @@
 use mathlib.Core.Path.{sym, _∙_}
 use borrow.Author.Needs.{needs}
-use Rattle.sound_records.proofs.Tests.{and-of, false-and}
+use Rattle.check_records.proofs.Tests.{and-of, false-and}
 use Rattle.door_fields.specs.Fields.{isSized}
 use Rattle.door_fields.proofs.lent.is_sound_lent.Statement.{statement}
 use Rattle.door_fields.proofs.lent.is_sound_lent.Tie as tie

@@ -1,6 +1,6 @@
 use mathlib.Core.Path.{_∙_}
-use Rattle.state.specs.Shown.{pool}
-use Rattle.state.proofs.States.{fresh-state}
+use Rattle.pool_state.specs.Shown.{pool}
+use Rattle.pool_state.proofs.States.{fresh-state}
 use Rattle.image_parts.specs.Layout.{current}
 use Rattle.image.proofs.Ways.{unread, read-whole}
 use Rattle.image.proofs.read.read_image.Statement.{statement}

@@ -1,4 +1,4 @@
-use Rattle.lists.proofs.Laws.{true≢false}
+use Rattle.linked_lists.proofs.Laws.{true≢false}
 use borrow.Author.Needs.{needs}
 use Rattle.image.proofs.write.write_state.Statement.{statement}
 use Rattle.image.proofs.write.write_state.Tie as tie

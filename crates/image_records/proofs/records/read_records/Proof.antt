@@ -2,8 +2,8 @@ use Prim.Native.Nat.{_-_}
 use mathlib.Core.Bool.{true, false}
 use mathlib.Core.Path.{_≡_, refl, sym, _∙_}
 use native.Mathlib.Omega.{arith}
-use Rattle.lists.proofs.Laws.{true≢false}
-use Rattle.state.specs.Shown.{pool}
+use Rattle.linked_lists.proofs.Laws.{true≢false}
+use Rattle.pool_state.specs.Shown.{pool}
 use Rattle.image_parts.specs.Layout.{current, recordAt}
 use Rattle.image_records.specs.Records.{plain}
 use Rattle.image_records.proofs.Decoding.{Decoding, decode-start, decode-end, decode-put, decode-pass, plain-unused, plain-used, plain-neither, plain-next, plain-stop, plain-end}

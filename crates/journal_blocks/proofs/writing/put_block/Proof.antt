@@ -1,6 +1,6 @@
 use mathlib.Core.Path.{sym}
 use native.Mathlib.Omega.{arith}
-use Rattle.texts.proofs.Buffers.{put-none, put-part}
+use Rattle.script_texts.proofs.Buffers.{put-none, put-part}
 use Rattle.journal_blocks.specs.Journal.{laidOut}
 use Rattle.journal_blocks.proofs.Laid.{length-laid}
 use borrow.Author.Needs.{needs}

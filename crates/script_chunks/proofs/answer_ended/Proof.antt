@@ -1,0 +1,52 @@
+use mathlib.Core.Path.{sym}
+use native.Mathlib.Omega.{arith}
+use lib.Seq.{length-take-le}
+use Rattle.pool_state.specs.Shown.{pool}
+use Rattle.script_chunks.proofs.Answering.{ended-steps}
+use borrow.Author.Needs.{needs}
+use Rattle.script_chunks.proofs.answer_ended.Statement.{statement}
+use Rattle.script_chunks.proofs.answer_ended.Tie as tie
+
+hold-requires : tie.Need-hold-requires
+hold-requires c κs = search needs
+
+slice-reshare-prefix-answer-line : tie.Need-slice-reshare-prefix-answer-line
+slice-reshare-prefix-answer-line c = search needs
+
+slice-aggregate-answer-line : tie.Need-slice-aggregate-answer-line
+slice-aggregate-answer-line c =
+    let j = c .before .before .before .hold .ensures in
+    let a = j .size in
+    let b = j .within in
+    sym (length-take-le _ _ (omega arith))
+
+answer-line-requires : tie.Need-answer-line-requires
+answer-line-requires c κs = search needs
+
+add-t15 : tie.Need-add-t15
+add-t15 c = search needs
+
+same-length : tie.Need-same-length
+same-length c = search needs
+
+same-length-2 : tie.Need-same-length-2
+same-length-2 c = search needs
+
+returns : tie.Need-returns
+returns c =
+    let a = c .before .before .before in
+    let h = a .before .before .before .before .before in
+    ended-steps pool _ _ _ _ _ _ _ _ _ (h .before .before .before .before .before .pre .0) (h .hold .ensures) (a .answer-line .ensures)
+
+pub answer-ended-spec : {M : Type 1} → statement M
+answer-ended-spec =
+    tie.close
+    (tie.spec
+    hold-requires
+    slice-reshare-prefix-answer-line
+    slice-aggregate-answer-line
+    answer-line-requires
+    add-t15
+    same-length
+    same-length-2
+    returns)
