@@ -1,64 +1,61 @@
 -- What the definitions give on each way through the code. n is the number of records, f the layout of an image. Assumes nothing.
-use Prim.Native.Nat.{ℕ, _<_}
-use mathlib.Core.Bool.{Bool, true, false, cond}
+use Prim.Native.Nat.{ℕ, _≤_}
+use mathlib.Core.Bool.{true, false}
 use mathlib.Core.List.{List}
-use mathlib.Core.Path.{_≡_, refl, sym, ap, subst, _∙_}
-use lib.Dec.{eqb, lit<}
+use mathlib.Core.Path.{_≡_, refl, sym, ap, subst}
 use lib.IntN.{ℤ, pos, negℤ}
 use lib.ListN.{length}
-use borrow.Author.Tests.{eq-eqb}
-use Rattle.rules.specs.Rules.{top}
+use Rattle.linked_lists.specs.Links.{none}
+use Rattle.rules.specs.Rules.{Book}
+use Rattle.pool_state.specs.State.{Holds}
 use Rattle.pool_state.specs.declared.MemoryAllocator.{MemoryAllocator}
+use Rattle.pool_state.proofs.Book.{sound-holds}
 use Rattle.check_state.specs.IsSound.{isSound}
-use Rattle.calls.specs.Calls.{addressOf, signedOf}
-use Rattle.calls.specs.declared.Answer.the-variants.{Accepted, InvalidEntry, InvalidRequest}
+use Rattle.check_meaning.specs.Paragraph.{Sized}
+use Rattle.check_meaning.proofs.Exact.{passes-sound}
+use Rattle.calls.specs.Calls.{signedOf}
+use Rattle.calls.specs.declared.Answer.the-variants.{InvalidEntry, InvalidRequest}
 use Rattle.calls.specs.declared.Outcome.{Outcome}
-use Rattle.batch.specs.InWords.{asked}
-use Rattle.batch.specs.Lists.{leftBy, fitted, listServed, Serves}
+use Rattle.batch.specs.Lists.{fitted, Served, Serves}
+use Rattle.batch.proofs.Ways.{unsound, unfitted, done}
 use Rattle.image_parts.specs.Layout.{Layout}
-use Rattle.image.specs.Reading.{Handed, handed, readingOf}
-use Rattle.image.specs.Writing.{Written, written, writingOf}
-use Rattle.image.specs.Writing as writing
+use Rattle.image_reading.specs.Reading.{stateIn, readable}
+use Rattle.image.specs.Writing.{numberOf, Written, written, writingOf}
 use Rattle.image.specs.declared.ImageAnswer.{ImageAnswer}
-use Rattle.image.specs.declared.ImageAnswer.the-variants as read
+use Rattle.image.proofs.Ways.{unread, read-whole}
 use Rattle.door_copies.specs.Copies.{Lists, imported, Imports, Exports}
 
 -- ---- lists
 
--- a list itself is answered with no address
-pub list-below : (n : ℕ) (t : MemoryAllocator) (l : List ℕ) (old now : List ℤ) (w : Outcome) → Serves n t l old w now → addressOf (w .answer) < top
-unfolding listServed
-list-below n t l old now w h = subst (λ (o : Outcome). addressOf (o .answer) < top) (sym (h .outcome)) (go (isSound n t) (fitted l (length old)))
-  where
-    left : Outcome
-    left = record { answer = Accepted (record { 0 = 0 }); state = leftBy n t (asked l) }
+-- fields that pass the check hold a book, if a copy t of them has the places that its types say
+pub held-here : (n : ℕ) → n ≤ none → (s t : MemoryAllocator) → t ≡ s → Sized n t → isSound n s ≡ true → (b : Book) × Holds n b s
+held-here n small s t e sized on = (_, sound-holds n s (passes-sound n small s (subst (Sized n) e sized) on))
 
-    go : (a b : Bool) → addressOf (cond {A = Outcome} a (cond b left (record { answer = InvalidRequest; state = t })) (record { answer = InvalidEntry; state = t }) .answer) < top
-    go true true = lit< tt
-    go true false = lit< tt
-    go false b = lit< tt
+module _ (n : ℕ) (s : MemoryAllocator) (l : List ℕ) (old : List ℤ) where
+  listed : (w : Outcome) (now : List ℤ) → Serves n s l old w now → Lists n s l old (signedOf (w .answer)) (w .state) now
+  listed w now h =
+      record { number = ap (λ (o : Outcome). signedOf (o .answer)) (h .outcome); state = ap (λ (o : Outcome). o .state) (h .outcome); answers = h .answers }
 
-pub listed : (n : ℕ) (s t s′ : MemoryAllocator) (l : List ℕ) (old now : List ℤ) (w : Outcome) (r : ℤ)
-    → t ≡ s → Serves n t l old w now → s′ ≡ w .state → r ≡ signedOf (w .answer) → Lists n s l old r s′ now
-listed n s t s′ l old now w r e h left is = subst (λ (x : MemoryAllocator). Lists n x l old r s′ now) e
-    (record { number = is ∙ ap (λ (o : Outcome). signedOf (o .answer)) (h .outcome); state = left ∙ ap (λ (o : Outcome). o .state) (h .outcome); answers = h .answers })
+  pub list-unsound : isSound n s ≡ false → Lists n s l old (signedOf InvalidEntry) s old
+  list-unsound off = listed _ old (unsound n s l old off)
+
+  module _ (on : isSound n s ≡ true) where
+    pub list-unfitted : fitted l (length old) ≡ false → Lists n s l old (signedOf InvalidRequest) s old
+    list-unfitted off = listed _ old (unfitted n s l old on off)
+
+    pub list-done : fitted l (length old) ≡ true → (s′ : MemoryAllocator) (now : List ℤ) → Served n s l old s′ now → Lists n s l old (pos 0) s′ now
+    list-done fits s′ now h = listed _ now (done n s l old on s′ now fits h)
 
 -- ---- images
 
-module _ (f : Layout) (l : List ℕ) (s : MemoryAllocator) (a : ImageAnswer) (t : MemoryAllocator) (h : handed a t ≡ readingOf f l) where
-  pub import-done : (s′ : MemoryAllocator) → a ≡ read.Done → s′ ≡ t → Imports f l (pos 0) s s′
+module _ (f : Layout) (l : List ℕ) (s : MemoryAllocator) where
+  pub import-done : readable f l ≡ true → (s′ : MemoryAllocator) → s′ ≡ stateIn f l → Imports f l (pos 0) s s′
   unfolding imported
-  import-done s′ e stored =
-      let number : readingOf f l .number ≡ 0 = sym (ap (λ (r : Handed). r .number) h) ∙ ap writing.numberOf e in
-      record { number = rw (eq-eqb _ _ number); state = rw (eq-eqb _ _ number) (stored ∙ ap (λ (r : Handed). r .state) h) }
+  import-done on s′ is = let e = read-whole f l true (sym on) refl (stateIn f l) refl in record { number = rw (← e); state = rw (← e) is }
 
-  pub import-refused : a ≡ read.InvalidEntry → Imports f l (signedOf InvalidEntry) s s
+  pub import-refused : readable f l ≡ false → Imports f l (signedOf InvalidEntry) s s
   unfolding imported
-  import-refused e =
-      let number : readingOf f l .number ≡ 2 = sym (ap (λ (r : Handed). r .number) h) ∙ ap writing.numberOf e in
-      record { number = rw number; state = rw number }
+  import-refused off = let e = unread f l false (sym off) refl in record { number = rw (← e); state = rw (← e) }
 
-pub exported : (f : Layout) (s t : MemoryAllocator) (l l′ : List ℕ) (a : ImageAnswer) (r : ℤ)
-    → t ≡ s → written a l′ ≡ writingOf f t l → r ≡ negℤ (pos (writing.numberOf a)) → Exports f s l r l′
-exported f s t l l′ a r e h is = subst (λ (x : MemoryAllocator). Exports f x l r l′) e
-    (record { number = is ∙ ap (λ (w : Written). negℤ (pos (w .number))) h; bytes = ap (λ (w : Written). w .bytes) h })
+pub exported : (f : Layout) (s : MemoryAllocator) (l l′ : List ℕ) (a : ImageAnswer) → written a l′ ≡ writingOf f s l → Exports f s l (negℤ (pos (numberOf a))) l′
+exported f s l l′ a h = record { number = ap (λ (w : Written). negℤ (pos (w .number))) h; bytes = ap (λ (w : Written). w .bytes) h }

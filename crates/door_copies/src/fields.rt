@@ -1,11 +1,14 @@
-// Ten lent fields as a state by value, and back.
+// Ten lent fields: the state that they make up, by value, and the empty one.
 use pool_state::LISTS;
 use pool_state::MemoryAllocator;
+use pool_state::NONE;
 use pool_state::POOL;
 use pool_state::RecordIndex;
 ghost use mathlib.Core.Path.{_≡_};
+ghost use Rattle.rules.specs.Rules.{empty};
 ghost use Rattle.pool_state.specs.Lent.{was, turns};
-ghost use Rattle.pool_state.specs.State.{arrays};
+ghost use Rattle.pool_state.specs.Shown.{pool};
+ghost use Rattle.pool_state.specs.State.{arrays, stateOf};
 
 pub fn state_of(
     total: u64,
@@ -35,8 +38,8 @@ pub fn state_of(
     }
 }
 
-pub fn store(
-    s: MemoryAllocator,
+// The fields of the empty state, over whatever is there.
+pub fn clear(
     total: &mut u64,
     first: &mut u16,
     heads: &mut [u16; LISTS],
@@ -48,24 +51,16 @@ pub fn store(
     lprev: &mut [u16; POOL],
     lnext: &mut [u16; POOL],
 )
-    ensures { λ _. ⌜ turns (λ _ s′. s′ ≡ s) total first heads start end enabled previous next lprev lnext ⌝ }
+    ensures { λ _. ⌜ turns (λ s s′. s′ ≡ stateOf pool empty) total first heads start end enabled previous next lprev lnext ⌝ }
 {
-    let heads_of = s.free_list;
-    let start_of = s.start;
-    let end_of = s.end;
-    let enabled_of = s.enabled;
-    let previous_of = s.previous;
-    let next_of = s.next;
-    let lprev_of = s.list_prev;
-    let lnext_of = s.list_next;
-    *total = s.free_size;
-    *first = s.first_entry.0;
-    *heads = heads_of;
-    *start = start_of;
-    *end = end_of;
-    *enabled = enabled_of;
-    *previous = previous_of;
-    *next = next_of;
-    *lprev = lprev_of;
-    *lnext = lnext_of;
+    *total = 0;
+    *first = NONE;
+    *heads = [NONE; LISTS];
+    *start = [0; POOL];
+    *end = [0; POOL];
+    *enabled = [false; POOL];
+    *previous = [NONE; POOL];
+    *next = [NONE; POOL];
+    *lprev = [NONE; POOL];
+    *lnext = [NONE; POOL];
 }

@@ -1,23 +1,29 @@
-// A state of one's own, copied: a list of calls on it, an image into it, and its image. Each is called seldom, or serves many calls, so that
-// a copy costs little; all three are the calls on a state by value.
-use batch::serve_list;
+// A state of one's own, ten lent fields: a list of calls on it, an image into it, and its image. The fields are lent on as they are: no array
+// is copied.
+use batch::list_fits;
+use batch::serve_list_in;
 use calls::INVALID_ENTRY;
-use calls::signed_number;
+use check_state::is_sound_in;
+use fields::clear;
 use fields::state_of;
-use fields::store;
-use image::ImageAnswer;
-use image::read_image;
-use image::write_image;
+use image_parts::layout::IMAGE;
+use image_reading::read_fields;
+use image_writing::write_fields;
 use pool_state::LISTS;
+use pool_state::NONE;
 use pool_state::POOL;
+use pool_state::RecordIndex;
 ghost use mathlib.Core.Path.{_≡_};
 ghost use Rattle.image_parts.specs.Layout.{current};
+ghost use Rattle.image_reading.specs.Reading.{readable};
 ghost use Rattle.pool_state.specs.Lent.{was, is, turns};
 ghost use Rattle.pool_state.specs.Shown.{pool};
 ghost use Rattle.pool_state.specs.State.{arrays};
 ghost use Rattle.door_copies.specs.Copies.{Lists, Imports, Exports};
 
 mod fields;
+
+const INVALID_REQUEST: i64 = -4;
 
 // A list of calls, four words each, whose signed answers go into the places of `answers`; 0 where the list was served.
 #[no_mangle]
@@ -37,7 +43,9 @@ pub extern "C" fn cinghjalofa_fields_batch(
 ) -> i64
     ensures { λ r. ⌜ turns (λ s s′. Lists pool s (was calls) (was answers) r s′ (is answers)) total first heads start end enabled previous next lprev lnext ⌝ }
 {
-    let s = state_of(
+    // Never used, and so left out by the compiler; but of an array behind a reference the logic does not know how many places it has, and of
+    // a copy it does.
+    let _places = state_of(
         *total,
         *first,
         heads,
@@ -49,11 +57,9 @@ pub extern "C" fn cinghjalofa_fields_batch(
         lprev,
         lnext,
     );
-    let outcome = serve_list(s, calls, answers);
-    store(
-        outcome.state,
-        total,
-        first,
+    if is_sound_in(
+        *total,
+        RecordIndex(*first),
         heads,
         start,
         end,
@@ -62,9 +68,56 @@ pub extern "C" fn cinghjalofa_fields_batch(
         next,
         lprev,
         lnext,
-    );
-    let answer = outcome.answer;
-    signed_number(answer)
+    ) {
+        if list_fits(calls, answers.len()) {
+            serve_list_in(
+                total,
+                first,
+                heads,
+                start,
+                end,
+                enabled,
+                previous,
+                next,
+                lprev,
+                lnext,
+                calls,
+                answers,
+            );
+            return 0;
+        }
+        return INVALID_REQUEST;
+    }
+    INVALID_ENTRY
+}
+
+// Whether the bytes are the image of a sound state: read into ten fields that are given up again.
+fn is_image(image: &[u8]) -> bool
+    ensures { λ r. ⌜ r ≡ readable current (was image) ⌝ }
+{
+    let mut total: u64 = 0;
+    let mut first: u16 = NONE;
+    let mut heads = [NONE; LISTS];
+    let mut start = [0u64; POOL];
+    let mut end = [0u64; POOL];
+    let mut enabled = [false; POOL];
+    let mut previous = [NONE; POOL];
+    let mut next = [NONE; POOL];
+    let mut lprev = [NONE; POOL];
+    let mut lnext = [NONE; POOL];
+    read_fields(
+        image,
+        &mut total,
+        &mut first,
+        &mut heads,
+        &mut start,
+        &mut end,
+        &mut enabled,
+        &mut previous,
+        &mut next,
+        &mut lprev,
+        &mut lnext,
+    )
 }
 
 // The state of an image, over whatever is there; -2, and nothing is written, where the bytes are no image of a sound state.
@@ -84,27 +137,36 @@ pub extern "C" fn cinghjalofa_fields_import(
 ) -> i64
     ensures { λ r. ⌜ turns (λ s s′. Imports current (was image) r s s′) total first heads start end enabled previous next lprev lnext ⌝ }
 {
-    let reading = read_image(image);
-    let readable = reading.answer;
-    match readable {
-        ImageAnswer::Done => {
-            store(
-                reading.state,
-                total,
-                first,
-                heads,
-                start,
-                end,
-                enabled,
-                previous,
-                next,
-                lprev,
-                lnext,
-            );
-            0
-        }
-        ImageAnswer::InvalidEntry => INVALID_ENTRY,
+    let readable = is_image(image);
+    if readable {
+        clear(
+            total,
+            first,
+            heads,
+            start,
+            end,
+            enabled,
+            previous,
+            next,
+            lprev,
+            lnext,
+        );
+        let _again = read_fields(
+            image,
+            total,
+            first,
+            heads,
+            start,
+            end,
+            enabled,
+            previous,
+            next,
+            lprev,
+            lnext,
+        );
+        return 0;
     }
+    INVALID_ENTRY
 }
 
 // The image of the fields, over a slice of its length; -2, and no byte is written, where they are no sound state or the length is another.
@@ -124,9 +186,12 @@ pub extern "C" fn cinghjalofa_fields_export(
 ) -> i64
     ensures { λ r. ⌜ Exports current (arrays total first (was heads) (was start) (was end) (was enabled) (was previous) (was next) (was lprev) (was lnext)) (was image) r (is image) ⌝ }
 {
-    let s = state_of(
+    if image.len() != IMAGE {
+        return INVALID_ENTRY;
+    }
+    if is_sound_in(
         total,
-        first,
+        RecordIndex(first),
         heads,
         start,
         end,
@@ -135,10 +200,22 @@ pub extern "C" fn cinghjalofa_fields_export(
         next,
         lprev,
         lnext,
-    );
-    let written = write_image(s, image);
-    match written {
-        ImageAnswer::Done => 0,
-        ImageAnswer::InvalidEntry => INVALID_ENTRY,
+    ) {
+        write_fields(
+            image,
+            true,
+            total,
+            RecordIndex(first),
+            heads,
+            start,
+            end,
+            enabled,
+            previous,
+            next,
+            lprev,
+            lnext,
+        );
+        return 0;
     }
+    INVALID_ENTRY
 }

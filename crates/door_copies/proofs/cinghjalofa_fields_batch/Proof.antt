@@ -1,8 +1,8 @@
-use mathlib.Core.Path.{_∙_}
-use mir.Syntax.{w64}
-use mir.Facts.{toZ-ofZ}
+use mathlib.Core.Path.{sym, _∙_}
+use lib.Dec.{lit≤}
 use Rattle.pool_state.specs.Shown.{pool}
-use Rattle.door_copies.proofs.Copies.{list-below, listed}
+use Rattle.check_meaning.proofs.Owned.{owned-sized}
+use Rattle.door_copies.proofs.Copies.{held-here, list-unsound, list-unfitted, list-done}
 use borrow.Author.Needs.{needs}
 use Rattle.door_copies.proofs.cinghjalofa_fields_batch.Statement.{statement}
 use Rattle.door_copies.proofs.cinghjalofa_fields_batch.Tie as tie
@@ -10,36 +10,52 @@ use Rattle.door_copies.proofs.cinghjalofa_fields_batch.Tie as tie
 state-of-requires : tie.Need-state-of-requires
 state-of-requires c κs = search needs
 
-serve-list-requires : tie.Need-serve-list-requires
-serve-list-requires c κs = search needs
+is-sound-in-requires : tie.Need-is-sound-in-requires
+is-sound-in-requires c κs = search needs
 
-store-requires : tie.Need-store-requires
-store-requires c κs = search needs
+list-fits-requires : tie.Need-list-fits-requires
+list-fits-requires c κs = search needs
 
-signed-number-requires : tie.Need-signed-number-requires
-signed-number-requires c κs =
-    let lent = c .before .before .before .before .before .before in
-    let served = lent .before .before .before .before .before .before in
-    list-below pool _ _ _ _ _ (served .serve-list .ensures)
+serve-list-in-requires : tie.Need-serve-list-in-requires
+serve-list-in-requires c κs =
+    let fitting = c .before .before .before .before .before .before .before .before .before .before .before in
+    let tested = fitting .before in
+    let here = tested .before in
+    let checked = here .before in
+    let copied = checked .before .before .before .before .before .before .before .before .before in
+    let on = sym (checked .is-sound-in .ensures) ∙ here .if1 .taken in
+    (held-here pool (lit≤ tt) _ _ (copied .state-of .ensures) (owned-sized _ _ (copied .state-of .ok)) on, sym (tested .list-fits .ensures) ∙ fitting .if2 .taken)
 
 same-length : tie.Need-same-length
 same-length c = search needs
 
 returns : tie.Need-returns
 returns c =
-    let stored = c .before in
-    let lent = stored .before .before .before .before .before .before in
-    let served = lent .before .before .before .before .before .before in
-    let number = toZ-ofZ {w = w64} (record { sfits = c .signed-number .ok }) ∙ c .signed-number .ensures in
-    listed pool _ _ _ _ _ _ _ _ (served .before .before .state-of .ensures) (served .serve-list .ensures) (stored .store .ensures) number
+    let served = c .before in
+    let fitting = served .before .before .before .before .before .before .before .before .before .before .before .before in
+    let tested = fitting .before in
+    let here = tested .before in
+    let on = sym (here .before .is-sound-in .ensures) ∙ here .if1 .taken in
+    list-done pool _ _ _ on (sym (tested .list-fits .ensures) ∙ fitting .if2 .taken) _ _ (served .serve-list-in .ensures)
+
+returns-2 : tie.Need-returns-2
+returns-2 c =
+    let tested = c .before in
+    let here = tested .before in
+    list-unfitted pool _ _ _ (sym (here .before .is-sound-in .ensures) ∙ here .if1 .taken) (sym (tested .list-fits .ensures) ∙ c .if2 .left)
+
+returns-3 : tie.Need-returns-3
+returns-3 c = list-unsound pool _ _ _ (sym (c .before .is-sound-in .ensures) ∙ c .if1 .left)
 
 pub cinghjalofa-fields-batch-spec : {M : Type 1} → statement M
 cinghjalofa-fields-batch-spec =
     tie.close
     (tie.spec
     state-of-requires
-    serve-list-requires
-    store-requires
-    signed-number-requires
+    is-sound-in-requires
+    list-fits-requires
+    serve-list-in-requires
     same-length
-    returns)
+    returns
+    returns-2
+    returns-3)

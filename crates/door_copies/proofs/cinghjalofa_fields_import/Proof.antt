@@ -1,30 +1,38 @@
+use mathlib.Core.Path.{sym, _∙_}
 use Rattle.image_parts.specs.Layout.{current}
 use Rattle.door_copies.proofs.Copies.{import-done, import-refused}
 use borrow.Author.Needs.{needs}
 use Rattle.door_copies.proofs.cinghjalofa_fields_import.Statement.{statement}
 use Rattle.door_copies.proofs.cinghjalofa_fields_import.Tie as tie
 
-read-image-requires : tie.Need-read-image-requires
-read-image-requires c κs = search needs
+is-image-requires : tie.Need-is-image-requires
+is-image-requires c κs = search needs
 
-enum-told : tie.Need-enum-told
-enum-told c = search needs
+clear-requires : tie.Need-clear-requires
+clear-requires c κs = search needs
 
-store-requires : tie.Need-store-requires
-store-requires c κs = search needs
-
-enum-told-2 : tie.Need-enum-told-2
-enum-told-2 c = search needs
+read-fields-requires : tie.Need-read-fields-requires
+read-fields-requires c κs =
+    let cleared = c .before .before .before .before .before .before .before .before .before .before in
+    cleared .clear .ensures
 
 returns : tie.Need-returns
 returns c =
-    let lent = c .before .before .before .before .before .before in
-    let told = lent .before .before .before .before .before in
-    import-done current _ _ _ _ (told .before .before .read-image .ensures) _ (told .enum-told .given .1) (c .store .ensures)
+    let cleared = c .before .before .before .before .before .before .before .before .before .before .before in
+    let here = cleared .before .before .before .before .before .before .before .before .before .before .before in
+    let on = sym (here .before .is-image .ensures) ∙ here .if1 .taken in
+    let read = c .read-fields .ensures in
+    import-done current _ _ on _ (read .state (read .told ∙ on))
 
 returns-2 : tie.Need-returns-2
-returns-2 c = import-refused current _ _ _ _ (c .before .before .read-image .ensures) (c .enum-told2 .given .1)
+returns-2 c = import-refused current _ _ (sym (c .before .is-image .ensures) ∙ c .if1 .left)
 
 pub cinghjalofa-fields-import-spec : {M : Type 1} → statement M
 cinghjalofa-fields-import-spec =
-    tie.close (tie.spec read-image-requires enum-told store-requires enum-told-2 returns returns-2)
+    tie.close
+    (tie.spec
+    is-image-requires
+    clear-requires
+    read-fields-requires
+    returns
+    returns-2)
