@@ -1,3 +1,3 @@
--- Laws of the calls that copy a state of one's own.
+-- Laws of lists of calls on a state of one's own, and of images of it.
 pub mod Copies
 pub mod Kept

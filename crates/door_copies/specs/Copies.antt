@@ -1,4 +1,4 @@
--- What the calls that copy a state of one's own answer and leave. n is the number of records, f the layout of an image. Assumes nothing.
+-- What lists of calls on a state of one's own, and imports and exports of it, answer and leave. n is the number of records, f the layout of an image. Assumes nothing.
 use Prim.Native.Nat.{ℕ}
 use mathlib.Core.Bool.{cond}
 use mathlib.Core.List.{List}
