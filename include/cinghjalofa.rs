@@ -302,6 +302,7 @@ pub fn journal_read(journal: &[u8], at: u64, entry: &mut [u64]) -> i64 {
 /// - -2: there is no version byte, or another; the figure stays as it was
 pub fn audit(journal: &[u8], figure: &mut u64) -> i64 {
     unsafe { cinghjalofa_audit(journal.as_ptr(), journal.len(), figure) }
+}
 
 macro_rules! fields_mut {
     ($call:ident($own:ident $(, $more:expr)*)) => {

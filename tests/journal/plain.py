@@ -2,10 +2,13 @@
 import sys
 from pathlib import Path
 
-sys.path.insert(0, str(Path(__file__).resolve().parents[1] / "script"))
+TESTS = Path(__file__).resolve().parents[1]
+sys.path[:0] = [str(TESTS / "script"), str(TESTS)]
+import cases
 from model import Book
 
 VERSION = 1
+RECORDS = cases.table().records
 LENGTHS = {1: 25, 2: 25, 3: 33}  # a call byte, and the bytes behind the length of its block
 LETTERS = {"f": 1, "a": 2, "r": 3}
 
@@ -52,7 +55,7 @@ def made(book, kind, numbers):
 def audit(data):
     if data[:1] != bytes([VERSION]):
         return "no 2"
-    book, at, index = Book(), 1, 0
+    book, at, index = Book(RECORDS), 1, 0
     while True:
         found = block_at(data, at)
         if found == "end":
@@ -67,5 +70,5 @@ def audit(data):
 
 def recorded(calls):
     """The entries of a box that makes these calls, (letter, numbers), by the rules."""
-    book = Book()
+    book = Book(RECORDS)
     return [(LETTERS[letter], numbers, made(book, LETTERS[letter], numbers)) for letter, numbers in calls]
