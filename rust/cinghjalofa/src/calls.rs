@@ -8,9 +8,9 @@ use crate::MemoryError;
 mod library;
 
 pub(crate) use library::{audit, journal_begin, journal_read, journal_write};
+pub(crate) use library::{Own, RECORDS};
 pub(crate) use library::{AGREES, DIFFERS, ENTRY_WORDS, LONGEST_BLOCK, TRUNCATED, UNKNOWN_CALL, WRONG_LENGTH};
 pub(crate) use library::{ALLOCATE, ALLOCATE_PAGES, CALL_WORDS, FREE, FREE_PAGES, IMAGE_BYTES, PAGE_BYTES, RESERVE};
-pub(crate) use library::{Own, RECORDS};
 
 pub(crate) fn new(image: &mut [u8]) -> Result<(), MemoryError> {
     result_of(library::new(image)).map(|_| ())

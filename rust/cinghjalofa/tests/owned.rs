@@ -95,7 +95,8 @@ fn a_stray_write_is_noticed() {
 #[test]
 fn an_image_is_checked_on_its_way_in() {
     let image = served().image();
-    let (checked, unchecked) = (MemoryAllocator::from_image(&image).unwrap(), UncheckedAllocator::from_image(&image).unwrap());
+    let (checked, unchecked) =
+        (MemoryAllocator::from_image(&image).unwrap(), UncheckedAllocator::from_image(&image).unwrap());
     assert_eq!((checked.image(), unchecked.image()), (image, image));
     for at in 0..IMAGE_BYTES {
         let mut damaged = image;

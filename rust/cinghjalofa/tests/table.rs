@@ -1,10 +1,10 @@
-//! The table of cases, by an allocator of its own and by a lent one: each answer, each listing, and no byte changed by a refusal.
+//! The table of cases, by the two allocators that own their state and by a lent one: each answer, each listing, and no byte changed by a refusal.
 
 #[path = "../../../tests/cases.rs"]
 mod cases;
 
 use cases::{Call, Case, Line, Table};
-use cinghjalofa::{FreeRange, LentAllocator, MemoryAllocator, MemoryError, IMAGE_BYTES};
+use cinghjalofa::{FreeRange, LentAllocator, MemoryAllocator, MemoryError, UncheckedAllocator, IMAGE_BYTES};
 
 fn table() -> Table {
     cases::read(concat!(env!("CARGO_MANIFEST_DIR"), "/../../tests/cases.txt")).unwrap()
@@ -36,20 +36,29 @@ fn holds(case: &Case, held: (usize, Vec<FreeRange>), total: u64, ranges: &[(u64,
     assert_eq!(held, (total as usize, wanted.collect()), "{}", case.name);
 }
 
-fn play_owned(case: &Case) {
-    let mut memory = MemoryAllocator::new();
-    for line in &case.lines {
-        match line {
-            Line::Call(call) => {
-                let before = *memory.image();
-                assert_eq!(answer!(memory, call), call.answer, "{}: {}", case.name, shown(call));
-                assert!(call.answer >= 0 || *memory.image() == before, "{}: {}", case.name, shown(call));
+macro_rules! play_owned {
+    ($name:ident, $allocator:ident) => {
+        fn $name(case: &Case) {
+            let mut memory = $allocator::new();
+            for line in &case.lines {
+                match line {
+                    Line::Call(call) => {
+                        let before = memory.image();
+                        assert_eq!(answer!(memory, call), call.answer, "{}: {}", case.name, shown(call));
+                        assert!(call.answer >= 0 || memory.image() == before, "{}: {}", case.name, shown(call));
+                    }
+                    Line::List { total, ranges } => {
+                        holds(case, (memory.total(), memory.ranges().collect()), *total, ranges)
+                    }
+                    Line::Book { .. } => {} // tests/c_calls holds the image to it
+                }
             }
-            Line::List { total, ranges } => holds(case, (memory.total(), memory.ranges().collect()), *total, ranges),
-            Line::Book { .. } => {} // tests/c_calls holds the image to it
         }
-    }
+    };
 }
+
+play_owned!(play_checked, MemoryAllocator);
+play_owned!(play_unchecked, UncheckedAllocator);
 
 fn play_lent(case: &Case) {
     let mut bytes = [0xaa; IMAGE_BYTES];
@@ -69,8 +78,13 @@ fn play_lent(case: &Case) {
 }
 
 #[test]
-fn an_allocator_of_its_own() {
-    assert!(table().playable().map(play_owned).count() > 0);
+fn an_allocator_that_checks_its_state() {
+    assert!(table().playable().map(play_checked).count() > 0);
+}
+
+#[test]
+fn an_allocator_that_does_not() {
+    assert!(table().playable().map(play_unchecked).count() > 0);
 }
 
 #[test]
