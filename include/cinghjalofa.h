@@ -161,7 +161,7 @@ int64_t cinghjalofa_journal_begin(uint8_t *journal, size_t len);
 
 /*
  * Writes the block of one call from the place `at` on, and answers the place after it. z is not looked at where the call has
- * two numbers.
+ * two numbers. A call of pages is written as the call in bytes that it is: 4096 times the count, the order at least 12.
  *   -4  kind is not 1, 2 or 3, or the block does not fit
  */
 int64_t cinghjalofa_journal_write(uint8_t *journal, size_t len, uint64_t at, uint64_t kind, uint64_t x, uint64_t y, uint64_t z, int64_t answer);
