@@ -27,9 +27,10 @@ number-tells InvalidEntry InvalidEntry e = refl
 pub each-determined : EachDetermined
 each-determined = record {
   equation = λ v. one _ v (λ x h. h);
-  two-equations = λ v w. one _ (v, w) (λ x h. (λ i. (h .0 i, h .1 i)));
+  door-does = λ core m. one _ _ (λ x h. (λ i. (h .0 i, h .1 i)));
   listing = λ n s starts lasts. one _ _ (λ x h. (λ i. (h .answer i, h .starts-now i, h .lasts-now i)));
   list-served = λ n s l old. one _ _ (λ x h. (λ i. (h .outcome i, h .answers i)));
+  sound-list-served = λ n s l old. one _ _ (λ x h. (λ i. (h .state i, h .answers i)));
   image-read = λ w x y h k.
       let a = number-tells (x .answer) (y .answer) (ap (λ (z : Handed). z .number) (h ∙ sym k)) in
       let s = ap (λ (z : Handed). z .state) (h ∙ sym k) in

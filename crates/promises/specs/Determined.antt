@@ -7,10 +7,11 @@ use lib.IntN.{ℤ}
 use Rattle.rules.specs.Rules as rules
 use Rattle.rules.specs.Rules.{Book}
 use Rattle.pool_state.specs.declared.MemoryAllocator.{MemoryAllocator}
+use Rattle.calls.specs.declared.Answer.{Answer}
 use Rattle.calls.specs.declared.Counted.{Counted}
 use Rattle.calls.specs.declared.Outcome.{Outcome}
 use Rattle.core_accounts.specs.Accounts as accounts
-use Rattle.batch.specs.Lists.{Serves}
+use Rattle.batch.specs.Lists.{Serves, Served}
 use Rattle.image_parts.specs.Layout.{Layout}
 use Rattle.image.specs.Reading.{Handed, handed}
 use Rattle.image.specs.Writing.{Written, written}
@@ -18,6 +19,7 @@ use Rattle.image.specs.declared.ImageAnswer.{ImageAnswer}
 use Rattle.image.specs.declared.Reading.{Reading}
 use Rattle.image_calls.specs.Lists.{Returned, returned, BatchOver}
 use Rattle.door_own.specs.Own.{Judged}
+use Rattle.doors.specs.Lent.{Does}
 use Rattle.door_copies.specs.Copies.{Lists, Imports, Exports}
 use Rattle.journal_calls.specs.Calls.{Left, left, Reports}
 use Rattle.journal_audit.specs.declared.Verdict.{Verdict}
@@ -34,11 +36,12 @@ Determined {X} allows = (x y : X) → allows x → allows y → x ≡ y
 pub record EachDetermined : Type 1 where
   -- one equation for what is returned, or for the one thing that is lent
   pub equation : {X : Type 0} (v : X) → Determined (λ (x : X). x ≡ v)
-  -- one for each of the two
-  pub two-equations : {X Y : Type 0} (v : X) (w : Y) → Determined (λ (x : X × Y). (x .0 ≡ v) × (x .1 ≡ w))
+  -- a state that is lent in place: the answer, and the state behind the reference
+  pub door-does : (core : MemoryAllocator → Outcome) (m : MemoryAllocator) → Determined (λ (x : Answer × MemoryAllocator). Does core (x .0) m (x .1))
   -- the listing, and a list of calls
   pub listing : (n : ℕ) (s : MemoryAllocator) (starts lasts : List ℕ) → Determined (λ (x : Counted × List ℕ × List ℕ). accounts.Lists n s starts lasts (x .0) (x .1) (x .2))
   pub list-served : (n : ℕ) (s : MemoryAllocator) (l : List ℕ) (old : List ℤ) → Determined (λ (x : Outcome × List ℤ). Serves n s l old (x .0) (x .1))
+  pub sound-list-served : (n : ℕ) (s : MemoryAllocator) (l : List ℕ) (old : List ℤ) → Determined (λ (x : MemoryAllocator × List ℤ). Served n s l old (x .0) (x .1))
   -- images
   pub image-read : (w : Handed) → Determined (λ (r : Reading). handed (r .answer) (r .state) ≡ w)
   pub image-written : (w : Written) → Determined (λ (x : ImageAnswer × List ℕ). written (x .0) (x .1) ≡ w)
