@@ -24,6 +24,10 @@ BROKEN = [
     ("an edit that is not there", CONTRACTS, r"\n- `(\w+)/", r"\n- `\1/no_", "makes the mistake no_"),
     ("an edit with another line", CONTRACTS, r"(\n- `\w+/\w+`, .*: `)", r"\1no ", "changes its line to"),
     ("a contract with another text", CONTRACTS, r"(```rattle\n.*\n *)ensures", r"\1promises", "has no such lines"),
+    ("a public call that no sentence determines", CONTRACTS, r", `check_state::is_sound`", "", "check_state::is_sound is public"),
+    ("a call below a sentence of another form", CONTRACTS, r"(\| `listing` \| )", r"\1`batch::serve_list`, ", "batch::serve_list is not of the form of listing"),
+    ("a sentence that nothing states", CONTRACTS, r"\| `image-read` \|", "| `image-red` |", "image-red is no sentence"),
+    ("a `requires` that is not said", CONTRACTS, r"`batch::serve_list_in` on", "a call on", "batch::serve_list_in has a `requires`"),
     ("a call with one wrong program", CONTRACTS, r"(Ruled out:\n\n- .*\n)(?:- .*\n)+", r"\1", "fewer than two"),
 ]
 

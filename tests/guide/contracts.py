@@ -86,7 +86,7 @@ def held(project, page):
             yield f"{page.name}:{entry.line}: {entry.call} has fewer than two wrong programs"
 
 
-def _public(project, crate):
+def public(project, crate):
     """The functions that a crate gives to others: those of lib.rt and of its public modules, and what it hands on. A program gives none."""
     source = project / "crates" / crate / "src"
     if not (source / "lib.rt").is_file():
@@ -101,7 +101,7 @@ def unnamed(project, page):
     """Public functions, of the crates that the page has entries of, that it does not name."""
     named = {word for _, span in page.spans() for word in re.split(r"\W+", span)}
     for crate in sorted({entry.crate for entry in entries(page) if entry.crate}):
-        for name in _public(project, crate):
+        for name in public(project, crate):
             if name not in named:
                 yield f"{page.name}: it does not name {crate}::{name}, which is public"
 

@@ -3,6 +3,7 @@ import os
 
 import closing
 import contracts
+import determined
 import figures
 from exceptions import UNCALLED
 from names import Names
@@ -73,4 +74,5 @@ def problems(project, pages):
     yield from figures.folder_map(project, pages[GUIDE])
     yield from contracts.held(project, pages[CONTRACTS])
     yield from contracts.unnamed(project, pages[CONTRACTS])
+    yield from determined.held(project, pages[CONTRACTS])
     yield from _books(pages[GUIDE])

@@ -119,12 +119,12 @@ module _ (f : Layout) (lawful : Lawful f) (l : List ℕ) where
 
   -- a list on an image
   module _ (m : List ℕ) (i : Image f m) (b : Batch) where
-    image-left : imageDoor f l .next b m ≡ after (images f l) m (callsIn b)
+    pub image-left : imageDoor f l .next b m ≡ after (images f l) m (callsIn b)
     image-left =
         ap (imageDoor f l .next b) (sym (i .bytes)) ∙ list-bytes (i .state) (i .sound) b ∙ ap (imageOf f) (list-left n small (i .state) (i .sound) b)
         ∙ sym (after-images (i .state) (i .sound) (callsIn b)) ∙ ap (λ (x : List ℕ). after (images f l) x (callsIn b)) (i .bytes)
 
-    image-kept : vouchersIn b (imageDoor f l .answers b m) ≡ vouchers (images f l) m (callsIn b)
+    pub image-kept : vouchersIn b (imageDoor f l .answers b m) ≡ vouchers (images f l) m (callsIn b)
     image-kept =
         ap (λ (x : List ℕ). vouchersIn b (imageDoor f l .answers b x)) (sym (i .bytes))
         ∙ ap (vouchersIn b) (list-answers (i .state) (i .sound) b) ∙ list-kept n small (i .state) (i .sound) b

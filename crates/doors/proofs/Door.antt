@@ -42,6 +42,7 @@ use Rattle.calls.proofs.Answer as N
 use Rattle.calls.proofs.Answer.Laws as N′
 use Rattle.calls.proofs.Outcome as O
 use Rattle.calls.proofs.Outcome.Laws as O′
+use Rattle.doors.specs.Lent.{Does}
 use Rattle.doors.proofs.Passed.{Passed}
 use Rattle.doors.proofs.Passing.{rows, slots, keeps, stays, kinds, values, spells, tellss, Proper, lastss, fits, all-go, makess, had}
 
@@ -113,7 +114,7 @@ module _ (Ps : List Passed) where
     door-clauses κs a = record {
       ghost = Unit {0};
       requires = λ _. emp 𝓤;
-      ensures = λ _ r e. fact 𝓤 ((r ≡ f (now (a .0)) (values 1 κs Ps (a .1)) .answer) × (now (e .0) ≡ f (now (a .0)) (values 1 κs Ps (a .1)) .state));
+      ensures = λ _ r e. fact 𝓤 (Does (λ s. f s (values 1 κs Ps (a .1))) r (now (a .0)) (now (e .0)));
     }
 
     module _ (H : Heap 𝓤) (A : Atoms 𝓤) where

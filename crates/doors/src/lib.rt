@@ -2,13 +2,13 @@
 use memory_allocator::Address;
 use memory_allocator::Answer;
 use memory_allocator::MemoryAllocator;
-ghost use mathlib.Core.Path.{_≡_};
 ghost use Rattle.memory_allocator.specs.Names.{pool};
 ghost use Rattle.memory_allocator.specs.Promises.{allocateOf, reserveOf, freeOf};
+ghost use Rattle.doors.specs.Lent.{Does};
 
 // `size` bytes from a multiple of 2^order.
 pub fn allocate(m: &mut MemoryAllocator, size: u64, order: u64) -> Answer
-    ensures { λ r. ⌜ (r ≡ allocateOf pool (now (m .entry)) size order .answer) × (now (m .exit) ≡ allocateOf pool (now (m .entry)) size order .state) ⌝ }
+    ensures { λ r. ⌜ Does (λ s. allocateOf pool s size order) r (now (m .entry)) (now (m .exit)) ⌝ }
 {
     let allocated = memory_allocator::allocate(*m, size, order);
     *m = allocated.state;
@@ -17,7 +17,7 @@ pub fn allocate(m: &mut MemoryAllocator, size: u64, order: u64) -> Answer
 
 // The bytes from `address`, widened to multiples of 2^order, are taken.
 pub fn reserve_memory(m: &mut MemoryAllocator, address: Address, size: u64, order: u64) -> Answer
-    ensures { λ r. ⌜ (r ≡ reserveOf pool (now (m .entry)) (address .0) size order .answer) × (now (m .exit) ≡ reserveOf pool (now (m .entry)) (address .0) size order .state) ⌝ }
+    ensures { λ r. ⌜ Does (λ s. reserveOf pool s (address .0) size order) r (now (m .entry)) (now (m .exit)) ⌝ }
 {
     let reserved = memory_allocator::reserve_memory(*m, address, size, order);
     *m = reserved.state;
@@ -26,7 +26,7 @@ pub fn reserve_memory(m: &mut MemoryAllocator, address: Address, size: u64, orde
 
 // `size` bytes from `address` become free.
 pub fn free(m: &mut MemoryAllocator, address: Address, size: u64) -> Answer
-    ensures { λ r. ⌜ (r ≡ freeOf pool (now (m .entry)) (address .0) size .answer) × (now (m .exit) ≡ freeOf pool (now (m .entry)) (address .0) size .state) ⌝ }
+    ensures { λ r. ⌜ Does (λ s. freeOf pool s (address .0) size) r (now (m .entry)) (now (m .exit)) ⌝ }
 {
     let freed = memory_allocator::free(*m, address, size);
     *m = freed.state;

@@ -1,0 +1,2 @@
+-- What the contracts of the doors cite.
+pub mod Lent

@@ -1,0 +1,64 @@
+-- Demand 3 of all C calls over one slice, in any order, from the last `new` on. Assumes nothing.
+use Prim.Native.Nat.{ℕ}
+use mathlib.Core.Bool.{true, false}
+use mathlib.Core.List.{List, [], _∷_}
+use mathlib.Core.Path.{_≡_, refl, sym, ap, _∙_}
+use lib.ListN.{length}
+use Rattle.linked_lists.proofs.Laws.{true≢false}
+use Rattle.rules.specs.Rules.{Call}
+use Rattle.rules_engine.specs.Engine.{after, vouchers}
+use Rattle.rules_engine.specs.Demand.{left}
+use Rattle.pages.specs.Calls.{byteCall}
+use Rattle.batch.specs.Histories.{callsIn, vouchersIn}
+use Rattle.image_parts.specs.Layout.{Layout, imageSize}
+use Rattle.image_parts.proofs.Lawful.{Lawful, small-pool}
+use Rattle.image.specs.Writing.{Image}
+use Rattle.image.proofs.Fitting.{sound-fits}
+use Rattle.image.proofs.ReadBack.{frame-back}
+use Rattle.c_calls.specs.CCalls.{Returned, newOver}
+use Rattle.c_calls.specs.Images.{images}
+use Rattle.c_calls.proofs.Demand.{demand, new-written}
+use Rattle.c_calls.proofs.Batches.{image-left, image-kept}
+use Rattle.promises.specs.Clients.{ClientDemand}
+use Rattle.promises.specs.Images.{ImageAct, ImageNew, ImageCall, ImagePages, ImageList, imageRenews, imageGives, imageNext, imageClient}
+use Rattle.promises.proofs.Clients.{Plays, client-demand}
+
+module _ (f : Layout) (lawful : Lawful f) where
+  -- the image of a sound state has the length,
+  image-sized : (m : List ℕ) → Image f m → length m ≡ imageSize f
+  image-sized m i = ap length (sym (i .bytes)) ∙ frame-back f lawful (i .state) (sound-fits (f .records) (small-pool f lawful) (i .state) (i .sound)) .sized
+
+  -- so `new` over it leaves what `new` over any other slice of that length does
+  new-again : (l m : List ℕ) → length l ≡ imageSize f → Image f m → newOver f m .bytes ≡ newOver f l .bytes
+  new-again l m sized i = ap (λ (x : Returned). x .bytes) (new-written f lawful m (image-sized m i) ∙ sym (new-written f lawful l sized))
+
+  module _ (l : List ℕ) (sized : length l ≡ imageSize f) where
+    abbrev at : List Call → List ℕ
+    at cs = left (images f l) cs
+
+    image : (cs : List Call) → Image f (at cs)
+    image cs = demand f lawful l sized .always-sound cs
+
+    calls : ImageAct → List Call
+    calls ImageNew = []
+    calls (ImageCall c) = c ∷ []
+    calls (ImagePages p) = byteCall p ∷ []
+    calls (ImageList b) = callsIn b
+
+    anew : (a : ImageAct) (cs : List Call) → imageRenews a ≡ true → (imageNext f a (at cs) ≡ newOver f l .bytes) × (imageGives f a (at cs) ≡ [])
+    anew ImageNew cs e = (new-again l (at cs) sized (image cs), refl)
+    anew (ImageCall c) cs e = true≢false (sym e)
+    anew (ImagePages p) cs e = true≢false (sym e)
+    anew (ImageList b) cs e = true≢false (sym e)
+
+    onward : (a : ImageAct) (cs : List Call) → imageRenews a ≡ false
+        → (imageNext f a (at cs) ≡ after (images f l) (at cs) (calls a)) × (imageGives f a (at cs) ≡ vouchers (images f l) (at cs) (calls a))
+    unfolding calls after vouchers
+    onward ImageNew cs e = true≢false e
+    onward (ImageCall c) cs e = (refl, refl)
+    onward (ImagePages p) cs e = (refl, refl)
+    onward (ImageList b) cs e = (image-left f lawful l (at cs) (image cs) b, image-kept f lawful l (at cs) (image cs) b)
+
+    -- Over whatever lies in a slice of the image's length: the call that writes the image of `new`, and then any list of acts.
+    pub images-demand : ClientDemand (images f l) (imageClient f l)
+    images-demand = client-demand (images f l) (imageClient f l) (record { calls = calls; anew = anew; onward = onward }) (demand f lawful l sized)

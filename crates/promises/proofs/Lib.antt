@@ -1,0 +1,8 @@
+-- What shows the promises.
+pub mod Determined
+pub mod Clients
+pub mod Lent
+pub mod Own
+pub mod Images
+pub mod Lines
+pub mod Program

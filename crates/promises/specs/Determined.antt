@@ -1,0 +1,63 @@
+-- Each contract allows one result: number, address, whole next state, and each byte, word and place of what is lent. A result is all that a contract speaks
+-- of at exit; `docs/CONTRACTS.md` has, for each public call, the sentence here that its contract is an instance of. Assumes nothing.
+use Prim.Native.Nat.{ℕ}
+use mathlib.Core.List.{List}
+use mathlib.Core.Path.{_≡_}
+use lib.IntN.{ℤ}
+use Rattle.rules.specs.Rules as rules
+use Rattle.rules.specs.Rules.{Book}
+use Rattle.pool_state.specs.declared.MemoryAllocator.{MemoryAllocator}
+use Rattle.calls.specs.declared.Answer.{Answer}
+use Rattle.calls.specs.declared.Counted.{Counted}
+use Rattle.calls.specs.declared.Outcome.{Outcome}
+use Rattle.core_accounts.specs.Accounts as accounts
+use Rattle.batch.specs.Lists.{Serves, Served}
+use Rattle.image_parts.specs.Layout.{Layout}
+use Rattle.image.specs.Reading.{Handed, handed}
+use Rattle.image.specs.Writing.{Written, written}
+use Rattle.image.specs.declared.ImageAnswer.{ImageAnswer}
+use Rattle.image.specs.declared.Reading.{Reading}
+use Rattle.image_calls.specs.Lists.{Returned, returned, BatchOver}
+use Rattle.door_own.specs.Own.{Judged}
+use Rattle.doors.specs.Lent.{Does}
+use Rattle.door_copies.specs.Copies.{Lists, Imports, Exports}
+use Rattle.journal_calls.specs.Calls.{Left, left, Reports}
+use Rattle.journal_audit.specs.declared.Verdict.{Verdict}
+use Rattle.script_texts.specs.Answers.{Puts}
+use Rattle.script_lines.specs.declared.parse.Line.{Line}
+use Rattle.script_replies.specs.Replies.{PutsWithin}
+use Rattle.script_answers.specs.Script.{Answers}
+use Rattle.script_answers.specs.declared.Answered.{Answered}
+
+-- any two results that a contract allows coincide
+abbrev pub Determined : {X : Type 0} → (X → Type 0) → Type 0
+Determined {X} allows = (x y : X) → allows x → allows y → x ≡ y
+
+pub record EachDetermined : Type 1 where
+  -- one equation for what is returned, or for the one thing that is lent
+  pub equation : {X : Type 0} (v : X) → Determined (λ (x : X). x ≡ v)
+  -- a state that is lent in place: the answer, and the state behind the reference
+  pub door-does : (core : MemoryAllocator → Outcome) (m : MemoryAllocator) → Determined (λ (x : Answer × MemoryAllocator). Does core (x .0) m (x .1))
+  -- the listing, and a list of calls
+  pub listing : (n : ℕ) (s : MemoryAllocator) (starts lasts : List ℕ) → Determined (λ (x : Counted × List ℕ × List ℕ). accounts.Lists n s starts lasts (x .0) (x .1) (x .2))
+  pub list-served : (n : ℕ) (s : MemoryAllocator) (l : List ℕ) (old : List ℤ) → Determined (λ (x : Outcome × List ℤ). Serves n s l old (x .0) (x .1))
+  pub sound-list-served : (n : ℕ) (s : MemoryAllocator) (l : List ℕ) (old : List ℤ) → Determined (λ (x : MemoryAllocator × List ℤ). Served n s l old (x .0) (x .1))
+  -- images
+  pub image-read : (w : Handed) → Determined (λ (r : Reading). handed (r .answer) (r .state) ≡ w)
+  pub image-written : (w : Written) → Determined (λ (x : ImageAnswer × List ℕ). written (x .0) (x .1) ≡ w)
+  -- the C calls: the number, and every byte of the image; for a list every place too
+  pub call-returned : (w : Returned) → Determined (λ (x : ℤ × List ℕ). returned (x .0) (x .1) ≡ w)
+  pub batch-over : (f : Layout) (l calls : List ℕ) (old : List ℤ) → Determined (λ (x : ℤ × List ℕ × List ℤ). BatchOver f l calls old (x .0) (x .1) (x .2))
+  -- a state of one's own: the number, and the state that the ten fields make up
+  pub own-judged : (n : ℕ) (rule : Book → rules.Answer) (s : MemoryAllocator) → Determined (λ (x : ℤ × MemoryAllocator). Judged n rule (x .0) s (x .1))
+  pub own-listed : (n : ℕ) (s : MemoryAllocator) (l : List ℕ) (old : List ℤ) → Determined (λ (x : ℤ × MemoryAllocator × List ℤ). Lists n s l old (x .0) (x .1) (x .2))
+  pub own-imported : (f : Layout) (l : List ℕ) (s : MemoryAllocator) → Determined (λ (x : ℤ × MemoryAllocator). Imports f l (x .0) s (x .1))
+  pub own-exported : (f : Layout) (s : MemoryAllocator) (l : List ℕ) → Determined (λ (x : ℤ × List ℕ). Exports f s l (x .0) (x .1))
+  -- a text, or the bytes of a block, in a buffer
+  pub text-put : (t l : List ℕ) (at : ℕ) → Determined (λ (x : List ℕ × ℕ). Puts t l at (x .0) (x .1))
+  pub text-put-within : (most : ℕ) (t l : List ℕ) (at : ℕ) → Determined (λ (x : List ℕ × ℕ). PutsWithin most t l at (x .0) (x .1))
+  -- the journal
+  pub journal-left : (w : Left) → Determined (λ (x : ℤ × List ℕ). left (x .0) (x .1) ≡ w)
+  pub journal-reported : (v : Verdict) (old : ℕ) → Determined (λ (x : ℤ × ℕ). Reports v old (x .0) (x .1))
+  -- a line of the script: the state, the next place, and every byte of the output
+  pub line-answered : (n : ℕ) (s : MemoryAllocator) (l : Line) (out : List ℕ) (at : ℕ) → Determined (λ (x : Answered × List ℕ). Answers n s l out at (x .0) (x .1))

@@ -1,0 +1,61 @@
+-- The calls on a state of one's own, ten lent fields, as an engine and a client of it: what they answer and leave, by the definitions that their contracts
+-- cite. An export changes no field, and an import ends the history: what an image holds has one of its own. n is the number of records. Assumes nothing.
+use Prim.Native.Nat.{ℕ}
+use mathlib.Core.Bool.{Bool, true, false}
+use mathlib.Core.List.{List, [], _∷_}
+use lib.IntN.{ℤ}
+use lib.ListN.{length}
+use Rattle.rules.specs.Rules.{empty, Voucher, step}
+use Rattle.rules_engine.specs.Engine.{Engine}
+use Rattle.pool_state.specs.State.{stateOf}
+use Rattle.pool_state.specs.Sound.{bookOf, SoundState}
+use Rattle.pool_state.specs.declared.MemoryAllocator.{MemoryAllocator}
+use Rattle.calls.specs.Calls.{callOf, signedOf, voucherFrom}
+use Rattle.batch.specs.InWords.{ruleOf}
+use Rattle.batch.specs.Lists.{listServed, answered}
+use Rattle.batch.specs.Histories.{Batch, vouchersIn}
+use Rattle.batch.specs.declared.Asked.{Asked}
+use Rattle.batch.specs.declared.Asked.the-variants.{Is, Unknown}
+use Rattle.door_fields.specs.Fields.{askedHere}
+use Rattle.door_own.specs.Own.{judgedHere}
+use Rattle.promises.specs.Clients.{Client}
+
+abbrev pub own : ℕ → Engine
+own n = record {
+  State = MemoryAllocator;
+  new = stateOf n empty;
+  answer = λ c s. voucherFrom c (signedOf (judgedHere n (step n c) s .answer));
+  next = λ c s. judgedHere n (step n c) s .state;
+  book = bookOf n;
+  total = λ s. s .«free_size»;
+  Sound = SoundState n;
+}
+
+-- `new`; a kind and three numbers, page calls among them; a list of calls
+pub data OwnAct : Type 0 where
+  OwnNew : OwnAct
+  OwnCall : ℕ → ℕ → ℕ → ℕ → OwnAct
+  OwnList : Batch → OwnAct
+
+abbrev pub ownRenews : OwnAct → Bool
+ownRenews OwnNew = true
+ownRenews (OwnCall k x y z) = false
+ownRenews (OwnList b) = false
+
+-- the voucher of what was asked for and answered; an unknown kind leaves none
+abbrev pub voucherIf : Asked → ℤ → List Voucher
+voucherIf (Is q) i = voucherFrom (callOf q) i ∷ []
+voucherIf Unknown i = []
+
+abbrev pub ownGives : ℕ → OwnAct → MemoryAllocator → List Voucher
+ownGives n OwnNew s = []
+ownGives n (OwnCall k x y z) s = voucherIf (askedHere k x y z) (signedOf (judgedHere n (ruleOf n (askedHere k x y z)) s .answer))
+ownGives n (OwnList b) s = vouchersIn b (answered n s (b .words) (b .places))
+
+abbrev pub ownNext : ℕ → OwnAct → MemoryAllocator → MemoryAllocator
+ownNext n OwnNew s = stateOf n empty
+ownNext n (OwnCall k x y z) s = judgedHere n (ruleOf n (askedHere k x y z)) s .state
+ownNext n (OwnList b) s = listServed n s (b .words) (length (b .places)) .state
+
+abbrev pub ownClient : (n : ℕ) → Client (own n)
+ownClient n = record { Act = OwnAct; renews = ownRenews; gives = ownGives n; next = ownNext n }
