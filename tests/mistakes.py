@@ -1,11 +1,13 @@
-"""The mistakes that crates/*/must-fail/*.edit make on purpose. A file makes one, and is named after it, or several, each in a function of
-its own, so that one check of the crate tries them all: each begins with a line `# NAME, in FUNCTION: what is wrong`.
+"""The mistakes that crates/*/must-fail/*.edit make on purpose. A file makes one, and is named after it, or several, so that one check of
+the crate tries them all. Then each begins with a line `# NAME, in FUNCTION: what is wrong`, or `# NAME, in FUNCTION at NEED: what is wrong`
+where two are in one function: NEED is the declaration of the function's proof that fails. A mistake in a definition may be seen by a law
+instead: FUNCTION is the file of `proofs/` that has it, and NEED the law.
 """
 import re
 from dataclasses import dataclass
 from pathlib import Path
 
-HEAD = re.compile(r"# (\w+), in (\w+): (.+)")
+HEAD = re.compile(r"# (\w+), in (\w+)(?: at ([^\s:]+))?: (.+)")
 
 
 @dataclass
@@ -14,10 +16,15 @@ class Mistake:
     name: str
     file: Path  # the edit
     function: str  # the one that it breaks; empty where the file makes one mistake only
+    need: str  # what of its proof fails; empty where it is the file's only mistake in that function
     words: str
     source: str
     old: str
     new: str
+
+    @property
+    def place(self):
+        return f"{self.function} at {self.need}" if self.need else self.function
 
 
 def _fields(path):
@@ -39,9 +46,14 @@ def of_file(path):
     for words, source, old, new in found:
         head = HEAD.fullmatch(words)
         if head:
-            yield Mistake(crate, head[1], path, head[2], head[3], source, old, new)
+            yield Mistake(crate, head[1], path, head[2], head[3] or "", head[4], source, old, new)
         else:
-            yield Mistake(crate, path.stem, path, "", words[2:], source, old, new)
+            yield Mistake(crate, path.stem, path, "", "", words[2:], source, old, new)
+
+
+def of_crate(project, crate):
+    for path in sorted((project / "crates" / crate / "must-fail").glob("*.edit")):
+        yield from of_file(path)
 
 
 def of_project(project):
@@ -51,8 +63,12 @@ def of_project(project):
 
 def find(project, crate, name):
     """The mistake of this name, or None."""
-    for path in sorted((project / "crates" / crate / "must-fail").glob("*.edit")):
-        for mistake in of_file(path):
-            if mistake.name == name:
-                return mistake
-    return None
+    return next((mistake for mistake in of_crate(project, crate) if mistake.name == name), None)
+
+
+def shared(mistake, others):
+    """The other mistakes of the file whose failures could be taken for this one's: those of the same function, where not each has its need."""
+    for other in others:
+        if other is not mistake and other.file == mistake.file and other.function == mistake.function:
+            if not mistake.need or not other.need or mistake.need == other.need:
+                yield other
