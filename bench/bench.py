@@ -57,7 +57,7 @@ def build():
 
 def archive():
     """The archive that is measured."""
-    of_the_project = {"aarch64": "target/aarch64/libc_calls.a"}.get(os.uname().machine, "target/staticlib/libc_calls.a")
+    of_the_project = run([PROJECT / "tools" / "archives", "--where", os.uname().machine], stdout=subprocess.PIPE).strip()
     return Path(os.environ.get("CINGHJALOFA_ARCHIVE", PROJECT / of_the_project)).resolve()
 
 

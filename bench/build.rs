@@ -10,8 +10,8 @@ fn main() {
     println!("cargo:rerun-if-env-changed={VARIABLE}");
     let project = Path::new(env!("CARGO_MANIFEST_DIR")).join("..");
     let of_the_project = match env::var("CARGO_CFG_TARGET_ARCH").as_deref() {
-        Ok("aarch64") => project.join("target/aarch64/libc_calls.a"),
-        _ => project.join("target/staticlib/libc_calls.a"),
+        Ok("aarch64") => project.join("target/library/aarch64/libcinghjalofa.a"),
+        _ => project.join("target/library/x86_64/libcinghjalofa.a"),
     };
     let archive = env::var_os(VARIABLE).map_or(of_the_project, PathBuf::from);
     println!("cargo:rerun-if-changed={}", archive.display());

@@ -174,7 +174,7 @@ and out of it.
   {rounds_of_the_long} rounds. Reading, checking and writing the image are in the time.
 - Every answer of every round is compared with document 01's: addresses and acceptances of all paths, and the refusal numbers
   of all but the module, whose total drifts (docs/DIFFERENCES.md).
-- The archive is the project's own. The one for Arm is for bare machines (`tools/arm-archive`): no vector register, no
+- The archive is the project's own. The one for Arm is for bare machines (`tools/archives`): no vector register, no
   unaligned access. The module is compiled as any program's Rust is.
 - Under an emulator nothing is measured.
 """

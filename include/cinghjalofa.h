@@ -1,5 +1,5 @@
 /*
- * The memory-range allocator for C99 and C++: the calls over a byte image that the caller lends, and, at the end, the same
+ * The memory-range allocator for C (C89 to C23) and C++ (C++98 on), on 64-bit machines: the calls over a byte image that the caller lends, and, at the end, the same
  * calls on a state of the caller's own, `struct cinghjalofa_own`, which take a fraction of the time.
  *
  * The image
@@ -17,8 +17,8 @@
  *   Nothing is owed about the contents or about the numbers: every call ends with one of the answers below.
  *
  * The answer
- *   0 or more: accepted. It is the address for cinghjalofa_allocate and cinghjalofa_allocate_pages, and 0 for the others.
- *   A list of calls has an answer of its own, and one for each of its calls.
+ *   0 or more: accepted. It is the address for cinghjalofa_allocate and cinghjalofa_allocate_pages, the number of ranges for
+ *   cinghjalofa_listing, and 0 for the others. A list of calls has an answer of its own, and one for each of its calls.
  *   Below 0: refused, for the first reason that applies in the order in which each function lists them. A refusal
  *   changes no byte of the image. No call writes outside the image and, of a list, the
  *   places of its calls.
@@ -31,16 +31,31 @@
 #ifndef CINGHJALOFA_H
 #define CINGHJALOFA_H
 
-#include <stdbool.h>
 #include <stddef.h>
 #include <stdint.h>
+
+/* What C89 has not: the functions of this header are inline where the compiler can have them so, and the type of a truth is the
+ * one that the library has, whatever the language calls it. */
+#if defined(__cplusplus)
+#define CINGHJALOFA_INLINE static inline
+typedef bool cinghjalofa_bool;
+#elif defined(__STDC_VERSION__) && __STDC_VERSION__ >= 199901L
+#define CINGHJALOFA_INLINE static inline
+typedef _Bool cinghjalofa_bool;
+#elif defined(__GNUC__)
+#define CINGHJALOFA_INLINE static __inline__
+__extension__ typedef _Bool cinghjalofa_bool;
+#else
+#define CINGHJALOFA_INLINE static
+typedef unsigned char cinghjalofa_bool;
+#endif
 
 /* The length of an image; any other `len` is refused. */
 #define CINGHJALOFA_IMAGE_BYTES 1370
 
 /* The bytes of a page, and how many pages the addresses have. */
 #define CINGHJALOFA_PAGE_BYTES 4096
-#define CINGHJALOFA_MOST_PAGES (UINT64_C(1) << 51)
+#define CINGHJALOFA_MOST_PAGES ((uint64_t)1 << 51)
 
 /* The refusals. */
 #define CINGHJALOFA_NO_ENTRY (-1)        /* a record is needed and none is unused */
@@ -144,6 +159,31 @@ int64_t cinghjalofa_free_pages(uint8_t *image, size_t len, uint64_t address, uin
 int64_t cinghjalofa_batch(uint8_t *image, size_t len, const uint64_t *calls, size_t words, int64_t *answers, size_t places);
 
 /*
+ * Writes the number of free bytes to *total, and answers 0. (It may be 2^63, which no answer is.)
+ *   -2  len is not CINGHJALOFA_IMAGE_BYTES, or the image is not sound; *total stays as it was
+ */
+int64_t cinghjalofa_total(const uint8_t *image, size_t len, uint64_t *total);
+
+/*
+ * Writes the first byte of each free range to `starts` and the last one to `lasts`, by address, from the first place on, and
+ * answers the number of ranges. Places past them keep their contents; CINGHJALOFA_RECORDS places are always enough. What was
+ * said above of `answers` holds of both slices.
+ *   -2  len is not CINGHJALOFA_IMAGE_BYTES, or the image is not sound
+ *   -4  one of the slices has fewer places than there are ranges; nothing is written
+ */
+int64_t cinghjalofa_listing(const uint8_t *image, size_t len, uint64_t *starts, size_t starts_len, uint64_t *lasts, size_t lasts_len);
+
+/* The words of an answer: why a call was refused. For people to read; nothing else is to be told by them. */
+CINGHJALOFA_INLINE const char *cinghjalofa_text(int64_t answer) {
+    if (answer >= 0) return "accepted";
+    if (answer == CINGHJALOFA_NO_ENTRY) return "a record is needed and none is unused";
+    if (answer == CINGHJALOFA_INVALID_ENTRY) return "the bytes are no image of a sound allocator";
+    if (answer == CINGHJALOFA_NO_MEMORY) return "too few bytes are free, or no free range fits";
+    if (answer == CINGHJALOFA_INVALID_REQUEST) return "the request cannot be right: its size, order, addresses or places";
+    return "no answer of this library";
+}
+
+/*
  * A journal: the version byte, then a block for each call with its answer. A block is the length of what follows in 2 bytes,
  * 25 or 33; the call byte, 1, 2 or 3 as the kinds above; the call's numbers as typed, 8 bytes each; and the call's answer in
  * 8. All numbers are big-endian, the answer in two's complement. The bytes are the caller's: a box that appends to a file
@@ -219,115 +259,133 @@ struct cinghjalofa_own {
 /* The library's functions take the ten fields one by one; each byte of `enabled` is 0 or 1. A call is its kind and three
  * numbers, as in a list. */
 #define CINGHJALOFA_FIELDS_WRITTEN \
-    uint64_t *total, uint16_t *first, uint16_t *heads, uint64_t *start, uint64_t *end, bool *enabled, uint16_t *previous, \
+    uint64_t *total, uint16_t *first, uint16_t *heads, uint64_t *start, uint64_t *end, cinghjalofa_bool *enabled, uint16_t *previous, \
     uint16_t *next, uint16_t *list_prev, uint16_t *list_next
 #define CINGHJALOFA_FIELDS_READ \
-    uint64_t total, uint16_t first, const uint16_t *heads, const uint64_t *start, const uint64_t *end, const bool *enabled, \
+    uint64_t total, uint16_t first, const uint16_t *heads, const uint64_t *start, const uint64_t *end, const cinghjalofa_bool *enabled, \
     const uint16_t *previous, const uint16_t *next, const uint16_t *list_prev, const uint16_t *list_next
 
 void cinghjalofa_fields_new(CINGHJALOFA_FIELDS_WRITTEN);
-bool cinghjalofa_fields_are_sound(CINGHJALOFA_FIELDS_READ);
+cinghjalofa_bool cinghjalofa_fields_are_sound(CINGHJALOFA_FIELDS_READ);
 int64_t cinghjalofa_fields_call(CINGHJALOFA_FIELDS_WRITTEN, uint64_t kind, uint64_t x, uint64_t y, uint64_t z);
 int64_t cinghjalofa_fields_call_unchecked(CINGHJALOFA_FIELDS_WRITTEN, uint64_t kind, uint64_t x, uint64_t y, uint64_t z);
 int64_t cinghjalofa_fields_batch(CINGHJALOFA_FIELDS_WRITTEN, const uint64_t *calls, size_t words, int64_t *answers, size_t places);
 int64_t cinghjalofa_fields_import(CINGHJALOFA_FIELDS_WRITTEN, const uint8_t *image, size_t len);
 int64_t cinghjalofa_fields_export(CINGHJALOFA_FIELDS_READ, uint8_t *image, size_t len);
+int64_t cinghjalofa_fields_total(CINGHJALOFA_FIELDS_READ, uint64_t *figure);
+int64_t cinghjalofa_fields_listing(CINGHJALOFA_FIELDS_READ, uint64_t *starts, size_t starts_len, uint64_t *lasts, size_t lasts_len);
 
 #define CINGHJALOFA_LENT(own) \
-    &(own)->total, &(own)->first, (own)->heads, (own)->start, (own)->end, (bool *)(void *)(own)->enabled, (own)->previous, \
+    &(own)->total, &(own)->first, (own)->heads, (own)->start, (own)->end, (cinghjalofa_bool *)(void *)(own)->enabled, (own)->previous, \
     (own)->next, (own)->list_prev, (own)->list_next
 #define CINGHJALOFA_SHOWN(own) \
-    (own)->total, (own)->first, (own)->heads, (own)->start, (own)->end, (const bool *)(const void *)(own)->enabled, \
+    (own)->total, (own)->first, (own)->heads, (own)->start, (own)->end, (const cinghjalofa_bool *)(const void *)(own)->enabled, \
     (own)->previous, (own)->next, (own)->list_prev, (own)->list_next
 
 /* Each byte of `enabled` is 0 or 1, as the library takes it for granted. */
-static inline bool cinghjalofa_own_has_bits(const struct cinghjalofa_own *own) {
+CINGHJALOFA_INLINE cinghjalofa_bool cinghjalofa_own_has_bits(const struct cinghjalofa_own *own) {
+    const uint64_t ones = ~(uint64_t)0 / 255; /* 1 in each byte */
     uint64_t all = 0;
-    for (int i = 0; i < CINGHJALOFA_RECORDS / 8; i++) all |= own->enabled[i];
-    return (all & ~UINT64_C(0x0101010101010101)) == 0;
+    int i;
+    for (i = 0; i < CINGHJALOFA_RECORDS / 8; i++) all |= own->enabled[i];
+    return (all & ~ones) == 0;
 }
 
-static inline int64_t cinghjalofa_own_call(struct cinghjalofa_own *own, uint64_t kind, uint64_t x, uint64_t y, uint64_t z) {
+CINGHJALOFA_INLINE int64_t cinghjalofa_own_call(struct cinghjalofa_own *own, uint64_t kind, uint64_t x, uint64_t y, uint64_t z) {
     if (!cinghjalofa_own_has_bits(own)) return CINGHJALOFA_INVALID_ENTRY;
     return cinghjalofa_fields_call(CINGHJALOFA_LENT(own), kind, x, y, z);
 }
 
-static inline int64_t cinghjalofa_own_call_unchecked(struct cinghjalofa_own *own, uint64_t kind, uint64_t x, uint64_t y, uint64_t z) {
+CINGHJALOFA_INLINE int64_t cinghjalofa_own_call_unchecked(struct cinghjalofa_own *own, uint64_t kind, uint64_t x, uint64_t y, uint64_t z) {
     return cinghjalofa_fields_call_unchecked(CINGHJALOFA_LENT(own), kind, x, y, z);
 }
 
 /* The empty allocator, over whatever is there. */
-static inline void cinghjalofa_own_new(struct cinghjalofa_own *own) {
-    for (int i = 0; i < CINGHJALOFA_RECORDS / 8; i++) own->enabled[i] = 0;
+CINGHJALOFA_INLINE void cinghjalofa_own_new(struct cinghjalofa_own *own) {
+    int i;
+    for (i = 0; i < CINGHJALOFA_RECORDS / 8; i++) own->enabled[i] = 0;
     cinghjalofa_fields_new(CINGHJALOFA_LENT(own));
 }
 
 /* Whether the state is sound. */
-static inline bool cinghjalofa_own_is_sound(const struct cinghjalofa_own *own) {
+CINGHJALOFA_INLINE cinghjalofa_bool cinghjalofa_own_is_sound(const struct cinghjalofa_own *own) {
     return cinghjalofa_own_has_bits(own) && cinghjalofa_fields_are_sound(CINGHJALOFA_SHOWN(own));
 }
 
 /* The five calls, with the refusals that stand above; -2 is the answer to a state that is not sound. */
-static inline int64_t cinghjalofa_own_allocate(struct cinghjalofa_own *own, uint64_t size, uint64_t order) {
+CINGHJALOFA_INLINE int64_t cinghjalofa_own_allocate(struct cinghjalofa_own *own, uint64_t size, uint64_t order) {
     return cinghjalofa_own_call(own, CINGHJALOFA_ALLOCATE, size, order, 0);
 }
 
-static inline int64_t cinghjalofa_own_reserve_memory(struct cinghjalofa_own *own, uint64_t start, uint64_t size, uint64_t order) {
+CINGHJALOFA_INLINE int64_t cinghjalofa_own_reserve_memory(struct cinghjalofa_own *own, uint64_t start, uint64_t size, uint64_t order) {
     return cinghjalofa_own_call(own, CINGHJALOFA_RESERVE, start, size, order);
 }
 
-static inline int64_t cinghjalofa_own_free(struct cinghjalofa_own *own, uint64_t start, uint64_t size) {
+CINGHJALOFA_INLINE int64_t cinghjalofa_own_free(struct cinghjalofa_own *own, uint64_t start, uint64_t size) {
     return cinghjalofa_own_call(own, CINGHJALOFA_FREE, start, size, 0);
 }
 
-static inline int64_t cinghjalofa_own_allocate_pages(struct cinghjalofa_own *own, uint64_t count, uint64_t order) {
+CINGHJALOFA_INLINE int64_t cinghjalofa_own_allocate_pages(struct cinghjalofa_own *own, uint64_t count, uint64_t order) {
     return cinghjalofa_own_call(own, CINGHJALOFA_ALLOCATE_PAGES, count, order, 0);
 }
 
-static inline int64_t cinghjalofa_own_free_pages(struct cinghjalofa_own *own, uint64_t address, uint64_t count) {
+CINGHJALOFA_INLINE int64_t cinghjalofa_own_free_pages(struct cinghjalofa_own *own, uint64_t address, uint64_t count) {
     return cinghjalofa_own_call(own, CINGHJALOFA_FREE_PAGES, address, count, 0);
 }
 
 /* The same, of a sound state alone. */
-static inline int64_t cinghjalofa_own_allocate_unchecked(struct cinghjalofa_own *own, uint64_t size, uint64_t order) {
+CINGHJALOFA_INLINE int64_t cinghjalofa_own_allocate_unchecked(struct cinghjalofa_own *own, uint64_t size, uint64_t order) {
     return cinghjalofa_own_call_unchecked(own, CINGHJALOFA_ALLOCATE, size, order, 0);
 }
 
-static inline int64_t cinghjalofa_own_reserve_memory_unchecked(struct cinghjalofa_own *own, uint64_t start, uint64_t size, uint64_t order) {
+CINGHJALOFA_INLINE int64_t cinghjalofa_own_reserve_memory_unchecked(struct cinghjalofa_own *own, uint64_t start, uint64_t size, uint64_t order) {
     return cinghjalofa_own_call_unchecked(own, CINGHJALOFA_RESERVE, start, size, order);
 }
 
-static inline int64_t cinghjalofa_own_free_unchecked(struct cinghjalofa_own *own, uint64_t start, uint64_t size) {
+CINGHJALOFA_INLINE int64_t cinghjalofa_own_free_unchecked(struct cinghjalofa_own *own, uint64_t start, uint64_t size) {
     return cinghjalofa_own_call_unchecked(own, CINGHJALOFA_FREE, start, size, 0);
 }
 
-static inline int64_t cinghjalofa_own_allocate_pages_unchecked(struct cinghjalofa_own *own, uint64_t count, uint64_t order) {
+CINGHJALOFA_INLINE int64_t cinghjalofa_own_allocate_pages_unchecked(struct cinghjalofa_own *own, uint64_t count, uint64_t order) {
     return cinghjalofa_own_call_unchecked(own, CINGHJALOFA_ALLOCATE_PAGES, count, order, 0);
 }
 
-static inline int64_t cinghjalofa_own_free_pages_unchecked(struct cinghjalofa_own *own, uint64_t address, uint64_t count) {
+CINGHJALOFA_INLINE int64_t cinghjalofa_own_free_pages_unchecked(struct cinghjalofa_own *own, uint64_t address, uint64_t count) {
     return cinghjalofa_own_call_unchecked(own, CINGHJALOFA_FREE_PAGES, address, count, 0);
 }
 
 /* A list of calls, as cinghjalofa_batch serves it; the state is checked once. */
-static inline int64_t cinghjalofa_own_batch(struct cinghjalofa_own *own, const uint64_t *calls, size_t words, int64_t *answers, size_t places) {
+CINGHJALOFA_INLINE int64_t cinghjalofa_own_batch(struct cinghjalofa_own *own, const uint64_t *calls, size_t words, int64_t *answers, size_t places) {
     if (!cinghjalofa_own_has_bits(own)) return CINGHJALOFA_INVALID_ENTRY;
     return cinghjalofa_fields_batch(CINGHJALOFA_LENT(own), calls, words, answers, places);
 }
 
 /* The state of an image, and 0; -2, and nothing changed, where the bytes are no image of a sound allocator. */
-static inline int64_t cinghjalofa_own_import(struct cinghjalofa_own *own, const uint8_t *image, size_t len) {
+CINGHJALOFA_INLINE int64_t cinghjalofa_own_import(struct cinghjalofa_own *own, const uint8_t *image, size_t len) {
     struct cinghjalofa_own read;
+    int64_t answer;
     cinghjalofa_own_new(&read);
-    const int64_t answer = cinghjalofa_fields_import(CINGHJALOFA_LENT(&read), image, len);
+    answer = cinghjalofa_fields_import(CINGHJALOFA_LENT(&read), image, len);
     if (answer >= 0) *own = read;
     return answer;
 }
 
 /* Writes the image of the state, and answers 0; -2, and no byte changed, where it is not sound, or `len` is another. */
-static inline int64_t cinghjalofa_own_export(const struct cinghjalofa_own *own, uint8_t *image, size_t len) {
+CINGHJALOFA_INLINE int64_t cinghjalofa_own_export(const struct cinghjalofa_own *own, uint8_t *image, size_t len) {
     if (!cinghjalofa_own_has_bits(own)) return CINGHJALOFA_INVALID_ENTRY;
     return cinghjalofa_fields_export(CINGHJALOFA_SHOWN(own), image, len);
+}
+
+/* The number of free bytes, and the listing, as cinghjalofa_total and cinghjalofa_listing give them; the state is checked. (The
+ * number alone, not checked, is own->total.) */
+CINGHJALOFA_INLINE int64_t cinghjalofa_own_total(const struct cinghjalofa_own *own, uint64_t *total) {
+    if (!cinghjalofa_own_has_bits(own)) return CINGHJALOFA_INVALID_ENTRY;
+    return cinghjalofa_fields_total(CINGHJALOFA_SHOWN(own), total);
+}
+
+CINGHJALOFA_INLINE int64_t cinghjalofa_own_listing(const struct cinghjalofa_own *own, uint64_t *starts, size_t starts_len, uint64_t *lasts, size_t lasts_len) {
+    if (!cinghjalofa_own_has_bits(own)) return CINGHJALOFA_INVALID_ENTRY;
+    return cinghjalofa_fields_listing(CINGHJALOFA_SHOWN(own), starts, starts_len, lasts, lasts_len);
 }
 
 #ifdef __cplusplus

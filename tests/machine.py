@@ -1,8 +1,8 @@
 """The machines that compiled tests run on, each with its archive of the C calls, its compilers, and how a program is run.
 
 Rattle compiles for x86-64, and there everything is made and run on the machine itself. On Arm the tests run whole on the
-machine itself, over the archive that tools/arm-archive makes of the same module; then a bounded part of them runs over
-the x86-64 archive, compiled across and emulated.
+machine itself, over the archive for bare machines that tools/archives makes of the same module; then a bounded part of them runs
+over the one for machines with their MMU on, and over the x86-64 archive, compiled across and emulated.
 """
 
 import hashlib
@@ -65,8 +65,17 @@ class Machine:
         return output
 
 
-X86_64 = Machine("x86-64", PROJECT / "target/staticlib/libc_calls.a", 62)
-ARM = Machine("aarch64", PROJECT / "target/aarch64/libc_calls.a", 183)
+def archive_of(kind):
+    """The library for a kind of machine; tools/archives decides where it is."""
+    asked = subprocess.run([PROJECT / "tools" / "archives", "--where", kind], capture_output=True, text=True)
+    if asked.returncode != 0:
+        raise Failed(f"tools/archives does not know where the library for {kind} is: {asked.stderr}")
+    return PROJECT / asked.stdout.strip()
+
+
+X86_64 = Machine("x86-64", archive_of("x86_64"), 62)
+ARM = Machine("aarch64", archive_of("aarch64"), 183)
+ARM_MMU = Machine("aarch64-mmu", archive_of("aarch64-mmu"), 183, is_whole=False)
 
 # Debian's own rustc, by its path: another one on the PATH need not have the standard library of another machine.
 EMULATED_X86_64 = replace(

@@ -2,19 +2,30 @@
 # compiled by Rattle's own words. To be sourced after begin.sh, with the project as the current folder. Gives
 #   keep_module CRATE             proves CRATE and leaves its module as text in target/module/CRATE/x86_64.ll, and the words
 #                                 that Rattle gave its clang beside it
-#   retarget CRATE                leaves the same for Arm in target/module/CRATE/aarch64.ll
-#   compile CRATE MACHINE TEXT OBJECT [WORD..]
-#                                 compiles such a text by the words kept for CRATE and those named, for x86_64 or aarch64
+#   retarget CRATE [KIND]         leaves the same for a kind of Arm machine, aarch64 where none is named, in target/module/CRATE/KIND.ll
+#   compile CRATE KIND TEXT OBJECT [WORD..]
+#                                 compiles such a text by the words kept for CRATE and those named, for a kind of machine
 #   pack ARCHIVE OBJECT..         makes an archive
-#   join ARCHIVE CRATE..          makes an archive of the kit's for x86-64 of these crates
+#   take_apart CRATE..            leaves the objects of the kit's archives for x86-64 of these crates as $work/CRATE.o
 # $work is a folder that is gone at the end.
 #
-# Rattle compiles for x86-64 alone. For Arm the module's target is replaced, and the kit's same clang compiles it for bare
-# Arm: no vector or floating-point register, which may hold a guest's numbers, and no unaligned access, which faults while
-# the MMU is off.
+# Rattle compiles for x86-64 alone. For Arm the module's target is replaced, and the kit's same clang compiles it, for three
+# kinds of machine. None of them uses a vector or floating-point register, which may hold a guest's numbers.
+#   aarch64        bare: no unaligned access either, which faults while the MMU is off
+#   aarch64-mmu    the MMU is on: unaligned accesses are made where they are quicker
+#   aarch64-uefi   so too, as COFF, for UEFI
 
 triple=aarch64-unknown-none-elf
-bare=(--target="$triple" -mgeneral-regs-only -mstrict-align)
+coff_triple=aarch64-unknown-windows
+
+# target_of KIND: its triple; words_of KIND: what its clang is told
+target_of() { [ "$1" = aarch64-uefi ] && echo "$coff_triple" || echo "$triple"; }
+words_of() {
+  echo "--target=$(target_of "$1")"
+  echo -mgeneral-regs-only
+  [ "$1" != aarch64 ] || echo -mstrict-align
+  [ "$1" != aarch64-uefi ] || echo -mno-incremental-linker-compatible # no time of day in the object
+}
 
 # link_all FOLDER NAME TO: links to all that FOLDER has, NAME aside
 link_all() {
@@ -66,13 +77,17 @@ keep_module() {
     -o "$kept/x86_64.ll"
 }
 
-# Triple and data layout replaced, the x86-64 attributes dropped.
+# Triple and data layout replaced, the x86-64 attributes dropped. For UEFI no call that probes the stack is put in, since nobody
+# there has it.
 retarget() {
-  local layout kept=target/module/$1
-  layout=$("$clang" --target="$triple" -S -emit-llvm -x c /dev/null -o - | grep '^target datalayout')
-  sed -E -e "s|^target datalayout = .*|$layout|" -e "s|^target triple = .*|target triple = \"$triple\"|" \
-    -e 's/ "(target-cpu|target-features|tune-cpu)"="[^"]*"//g' "$kept/x86_64.ll" >"$kept/aarch64.ll"
-  ! grep -n 'x86' "$kept/aarch64.ll" | grep -v '^[0-9]*:\(; ModuleID\|source_filename\)' >&2 ||
+  local kind=${2:-aarch64} own layout target probe='' kept=target/module/$1
+  own=$("$clang" --target="$(target_of "$kind")" -S -emit-llvm -x c /dev/null -o - | grep '^target ')
+  layout=$(grep '^target datalayout' <<<"$own")
+  target=$(grep '^target triple' <<<"$own")
+  [ "$kind" != aarch64-uefi ] || probe='s/^(attributes #[0-9]+ = \{)/\1 "no-stack-arg-probe"/'
+  sed -E -e "s|^target datalayout = .*|$layout|" -e "s|^target triple = .*|$target|" \
+    -e 's/ "(target-cpu|target-features|tune-cpu)"="[^"]*"//g' -e "$probe" "$kept/x86_64.ll" >"$kept/$kind.ll"
+  ! grep -n 'x86' "$kept/$kind.ll" | grep -v '^[0-9]*:\(; ModuleID\|source_filename\)' >&2 ||
     fail "the module of $1 says more of x86-64 than its target; the lines stand above"
 }
 
@@ -82,11 +97,12 @@ compile() {
   while IFS= read -r word; do
     case $word in
     --sysroot=* | *.bc | *.o | -x | ir | -o) ;;
-    --target=* | -march=*) [ "$2" = aarch64 ] || words+=("$word") ;;
+    --target=* | -march=*) [ "$2" != x86_64 ] || words+=("$word") ;;
+    -fPIC) [ "$2" = aarch64-uefi ] || words+=("$word") ;; # COFF code is moved by its own tables
     *) words+=("$word") ;;
     esac
   done <"target/module/$1/words"
-  [ "$2" != aarch64 ] || words=("${bare[@]}" "${words[@]}")
+  [ "$2" = x86_64 ] || mapfile -t -O "${#words[@]}" words < <(words_of "$2")
   "$clang" "${words[@]}" "${@:5}" -x ir "$3" -o "$4"
 }
 
@@ -96,15 +112,11 @@ pack() {
   "${clang%clang}llvm-ar" rcsD "$@"
 }
 
-join() {
-  local each archive=$1
-  shift
-  [ $# -gt 1 ] || return 0 # it is that crate's own
-  mkdir -p "$work/joined"
+take_apart() {
+  local each
   for each in "$@"; do
-    (cd "$work/joined" && "${clang%clang}llvm-ar" x "$root/target/staticlib/lib$each.a") || fail "the kit's archive of $each could not be taken apart"
+    "${clang%clang}llvm-ar" p "target/staticlib/lib$each.a" >"$work/$each.o" || fail "the kit's archive of $each could not be taken apart"
   done
-  pack "$archive" "$work/joined"/*.o
 }
 
 kit=$(tools/kit-folder)

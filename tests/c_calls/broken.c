@@ -21,6 +21,8 @@ int64_t __real_cinghjalofa_free(uint8_t *image, size_t len, uint64_t start, uint
 int64_t __real_cinghjalofa_allocate_pages(uint8_t *image, size_t len, uint64_t count, uint64_t order);
 int64_t __real_cinghjalofa_free_pages(uint8_t *image, size_t len, uint64_t address, uint64_t count);
 int64_t __real_cinghjalofa_batch(uint8_t *image, size_t len, const uint64_t *calls, size_t words, int64_t *answers, size_t places);
+int64_t __real_cinghjalofa_total(const uint8_t *image, size_t len, uint64_t *total);
+int64_t __real_cinghjalofa_listing(const uint8_t *image, size_t len, uint64_t *starts, size_t starts_len, uint64_t *lasts, size_t lasts_len);
 
 static uint8_t old_image[IMAGE_BYTES];
 
@@ -249,5 +251,34 @@ int64_t __wrap_cinghjalofa_batch(uint8_t *image, size_t len, const uint64_t *cal
     for (size_t k = 0; is_breakage("unknown-is-accepted") && answer == 0 && k < words / CINGHJALOFA_CALL_WORDS; k++)
         if (calls[CINGHJALOFA_CALL_WORDS * k] - 1 > 2)
             answers[k] = 0;
+    return answer;
+}
+
+int64_t __wrap_cinghjalofa_total(const uint8_t *image, size_t len, uint64_t *total)
+{
+    uint64_t found = 0;
+    const int64_t answer = __real_cinghjalofa_total(image, len, &found);
+
+    if (is_breakage("total-in-the-answer"))
+        return answer < 0 ? answer : (int64_t)found;
+    if (answer == 0 || is_breakage("refused-total-is-0"))
+        *total = found;
+    return answer;
+}
+
+int64_t __wrap_cinghjalofa_listing(const uint8_t *image, size_t len, uint64_t *starts, size_t starts_len, uint64_t *lasts, size_t lasts_len)
+{
+    uint64_t all_starts[CINGHJALOFA_RECORDS], all_lasts[CINGHJALOFA_RECORDS];
+    int64_t answer = __real_cinghjalofa_listing(image, len, starts, starts_len, lasts, lasts_len);
+
+    if (answer == CINGHJALOFA_INVALID_REQUEST && is_breakage("half-a-listing")) {
+        __real_cinghjalofa_listing(image, len, all_starts, CINGHJALOFA_RECORDS, all_lasts, CINGHJALOFA_RECORDS);
+        if (starts_len > 0 && lasts_len > 0) {
+            starts[0] = all_starts[0];
+            lasts[0] = all_lasts[0];
+        }
+    }
+    for (int64_t i = 0; i < answer && is_breakage("lasts-exclusive"); i++)
+        lasts[i]++;
     return answer;
 }

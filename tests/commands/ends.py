@@ -27,7 +27,7 @@ PROGRAMS = [
 ]
 
 # each must say something and end with another status than 0, where its output is full, and where it is closed
-PRINTING = ["./run --help", "./run --version", "./run example", "./test", ".ci/run", "tools/archives", "tools/arm-archive", "tools/kit-folder"]
+PRINTING = ["./run --help", "./run --version", "./run example", "./test", ".ci/run", "tools/archives", "tools/archives --where", "tools/kit-folder"]
 
 
 def programs():

@@ -13,7 +13,7 @@ TESTED = "3 passed, 0 failed\n"
 COMMANDS = [
     ("run", ["{root}/crates.txt"], 0, "ok\nok\n", ""),
     ("tools/archives", [], 0, MADE, ""),
-    ("tools/arm-archive", [], 0, MADE, ""),
+    ("tools/archives", ["--where", "x86_64"], 0, "libcinghjalofa.a\n", ""),
     ("tools/bench", ["--unknown"], 2, "", like(r".*usage: tools/bench.*")),
     ("tools/kit-folder", [], 0, "{kit}\n", ""),
     ("tools/locked", ["cat", "crates.txt"], 0, "script:\nc_calls:\n", ""),

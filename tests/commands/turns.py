@@ -5,7 +5,7 @@ import subprocess
 from scratch import ANSWER, Scratch, like, until
 
 CHECKED = ["begins: check script"]
-LIBRARY = [f"begins: staticlib {crate}" for crate in ("c_calls", "door_fields", "door_own", "door_copies")]
+LIBRARY = [f"begins: staticlib {crate}" for crate in ("c_calls", "door_fields", "door_own", "door_copies", "door_accounts")]
 RUN = ["./run", "crates.txt"]
 ANSWERED = (0, "ok\nok\n")
 
@@ -92,18 +92,17 @@ def handed_on(scratch):
     yield "a tool that a holder calls does not wait for it", ended.problem(0, None, None)
     calls = "import subprocess, sys; sys.exit(subprocess.run(['tools/archives']).returncode)"  # closes what it inherits
     ended = scratch.run(["tools/locked", "python3", "-c", calls])
-    said = like(r"arm-archive: its caller, process \d+, builds and has not handed on the lock, descriptor \d+\n")
+    said = like(r"archives: its caller, process \d+, builds and has not handed on the lock, descriptor \d+\n")
     yield "where the lock is not handed on, that is said", ended.problem(1, "", said)
 
 
 def unchanged(scratch):
-    archive = scratch.root / "target" / "aarch64" / "libc_calls.a"
+    archive = scratch.root / scratch.run(["tools/archives", "--where", "aarch64"]).out.strip()
     scratch.run(["tools/archives"])
     scratch.asked()
-    line = "target/staticlib/libc_calls.a and target/aarch64/libc_calls.a are of the files of now: nothing is to be done\n"
-    for tool in ("tools/archives", "tools/arm-archive"):
-        wrong = scratch.run([tool]).problem(0, line, "") or different(scratch.asked(), [])
-        yield f"{tool} does nothing where nothing has changed, and says so", wrong
+    line = "the library is of the files of now, for each kind of machine: nothing is to be done\n"
+    wrong = scratch.run(["tools/archives"]).problem(0, line, "") or different(scratch.asked(), [])
+    yield "tools/archives does nothing where nothing has changed, and says so", wrong
     changes = {"an archive is damaged": lambda: archive.write_bytes(b""), "a file has changed": lambda: scratch.write_program("# new\n")}
     for what, change in changes.items():
         change()

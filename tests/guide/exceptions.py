@@ -20,8 +20,7 @@ UNCALLED = [
 # Files that a command makes in target/, so that a fresh clone has them not.
 MADE = {
     "target/": "rt",
-    "target/staticlib/libc_calls.a": "tools/archives",
-    "target/aarch64/libc_calls.a": "tools/archives",
+    **{f"target/library/{kind}/libcinghjalofa.a": "tools/archives" for kind in ("x86_64", "aarch64", "aarch64-mmu", "aarch64-uefi")},
 }
 
 # Names that are not the project's.

@@ -2,13 +2,12 @@
 import platform
 import re
 
-ARCHIVES = {"x86_64": "target/staticlib/libc_calls.a", "aarch64": "target/aarch64/libc_calls.a"}
 STACK = re.compile(r"less than (\d+) bytes")
 
 
 def measured(place, page):
     """What is wrong, with the library that the commands of the page have made."""
-    archive = ARCHIVES.get(platform.machine())
+    archive = place.run(f"tools/archives --where {platform.machine()}").out.strip()
     most = STACK.search(" ".join(page.text))
     if not archive or not (place.root / archive).is_file():
         yield f"{page.name}: its commands have made no {archive or 'library for ' + platform.machine()}"

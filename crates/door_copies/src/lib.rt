@@ -5,7 +5,6 @@ use batch::serve_list_in;
 use calls::INVALID_ENTRY;
 use check_state::is_sound_in;
 use fields::clear;
-use fields::state_of;
 use image_parts::layout::IMAGE;
 use image_reading::read_fields;
 use image_writing::write_fields;
@@ -22,6 +21,8 @@ ghost use Rattle.pool_state.specs.State.{arrays};
 ghost use Rattle.door_copies.specs.Copies.{Lists, Imports, Exports};
 
 mod fields;
+
+pub use fields::state_of;
 
 const INVALID_REQUEST: i64 = -4;
 

@@ -32,10 +32,11 @@ void expect(struct call call, size_t at, size_t len, int64_t wanted, const char 
 extern unsigned long calls_made, failures;
 void fail(const char *what);
 
-/* contract.c, cases.c, lists.c, own.c: the tests */
+/* contract.c, cases.c, lists.c, own.c, accounts.c: the tests */
 void test_contract(void);
 void test_cases(const char *path);
 void test_lists(void);
 void test_own(void);
+void test_accounts(void);
 
 #endif

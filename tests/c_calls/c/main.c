@@ -14,6 +14,7 @@ int main(int count, char **words)
     test_cases(words[1]);
     test_lists();
     test_own();
+    test_accounts();
     printf("%lu calls, %lu failures\n", calls_made, failures);
     return failures ? 1 : 0;
 }

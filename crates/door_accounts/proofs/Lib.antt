@@ -1,0 +1,2 @@
+-- Laws of the total and the listing as C has them.
+pub mod Ways
