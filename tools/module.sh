@@ -2,19 +2,22 @@
 # compiled by Rattle's own words. To be sourced after begin.sh, with the project as the current folder. Gives
 #   keep_module CRATE             proves CRATE and leaves its module as text in target/module/CRATE/x86_64.ll, and the words
 #                                 that Rattle gave its clang beside it
-#   retarget CRATE                leaves the same for Arm in target/module/CRATE/aarch64.ll
+#   keep_program CRATE            the same of a program, which leaves target/bin/CRATE too
+#   retarget CRATE [TRIPLE]       leaves the same for Arm in target/module/CRATE/aarch64.ll: bare, or as the triple has it
 #   compile CRATE MACHINE TEXT OBJECT [WORD..]
-#                                 compiles such a text by the words kept for CRATE and those named, for x86_64 or aarch64
+#                                 compiles such a text by the words kept for CRATE and those named, for x86_64, for aarch64,
+#                                 which is bare, or for a program of Linux on Arm, aarch64-linux
 #   pack ARCHIVE OBJECT..         makes an archive
 #   join ARCHIVE CRATE..          makes an archive of the kit's for x86-64 of these crates
 # $work is a folder that is gone at the end.
 #
 # Rattle compiles for x86-64 alone. For Arm the module's target is replaced, and the kit's same clang compiles it for bare
 # Arm: no vector or floating-point register, which may hold a guest's numbers, and no unaligned access, which faults while
-# the MMU is off.
+# the MMU is off. A program of Linux has no such bounds.
 
 triple=aarch64-unknown-none-elf
 bare=(--target="$triple" -mgeneral-regs-only -mstrict-align)
+linux_triple=aarch64-unknown-linux-gnu
 
 # link_all FOLDER NAME TO: links to all that FOLDER has, NAME aside
 link_all() {
@@ -53,11 +56,22 @@ make_keeping_kit() {
 }
 
 keep_module() {
+  say "$1 and the crates below it are proved first, which takes some minutes the first time"
+  keep_of "$1" staticlib
+}
+
+# rt hands on the module of a program that it has not proved yet
+keep_program() {
+  rm -f "target/stamp/$1"
+  keep_of "$1" check
+}
+
+# keep_of CRATE WORD: by this word of rt
+keep_of() {
   local kept=target/module/$1
   make_keeping_kit
   rm -f "$work/module.bc"
-  say "$1 and the crates below it are proved first, which takes some minutes the first time"
-  RATTLE_HOME=$work/kit rt staticlib "$1" </dev/null 2>&1 | tee "$work/said" | progress
+  RATTLE_HOME=$work/kit rt "$2" "$1" </dev/null 2>&1 | tee "$work/said" | progress
   [ "${PIPESTATUS[0]}" -eq 0 ] || { tell "$(cat "$work/said")"; fail "$1 could not be made: the words of rt stand above"; }
   [ -f "$work/module.bc" ] || fail "rt made $1 without handing a module to clang; is it another kit than kit-id names?"
   mkdir -p "$kept"
@@ -68,9 +82,9 @@ keep_module() {
 
 # Triple and data layout replaced, the x86-64 attributes dropped.
 retarget() {
-  local layout kept=target/module/$1
-  layout=$("$clang" --target="$triple" -S -emit-llvm -x c /dev/null -o - | grep '^target datalayout')
-  sed -E -e "s|^target datalayout = .*|$layout|" -e "s|^target triple = .*|target triple = \"$triple\"|" \
+  local layout kept=target/module/$1 to=${2:-$triple}
+  layout=$("$clang" --target="$to" -S -emit-llvm -x c /dev/null -o - | grep '^target datalayout')
+  sed -E -e "s|^target datalayout = .*|$layout|" -e "s|^target triple = .*|target triple = \"$to\"|" \
     -e 's/ "(target-cpu|target-features|tune-cpu)"="[^"]*"//g' "$kept/x86_64.ll" >"$kept/aarch64.ll"
   ! grep -n 'x86' "$kept/aarch64.ll" | grep -v '^[0-9]*:\(; ModuleID\|source_filename\)' >&2 ||
     fail "the module of $1 says more of x86-64 than its target; the lines stand above"
@@ -82,11 +96,14 @@ compile() {
   while IFS= read -r word; do
     case $word in
     --sysroot=* | *.bc | *.o | -x | ir | -o) ;;
-    --target=* | -march=*) [ "$2" = aarch64 ] || words+=("$word") ;;
+    --target=* | -march=*) [ "$2" != x86_64 ] || words+=("$word") ;;
     *) words+=("$word") ;;
     esac
   done <"target/module/$1/words"
-  [ "$2" != aarch64 ] || words=("${bare[@]}" "${words[@]}")
+  case $2 in
+  aarch64) words=("${bare[@]}" "${words[@]}") ;;
+  aarch64-linux) words=(--target="$linux_triple" "${words[@]}") ;;
+  esac
   "$clang" "${words[@]}" "${@:5}" -x ir "$3" -o "$4"
 }
 
@@ -111,4 +128,5 @@ kit=$(tools/kit-folder)
 clang=$kit/on/$(uname -m)/toolchain/bin/clang
 [ -x "$clang" ] || fail "the kit at $kit has no clang for $(uname -m)"
 work=$(mktemp -d)
+chmod 711 "$work" # rt runs a program as nobody, with the kit's emulator
 trap 'rm -rf "$work"' EXIT
