@@ -2,7 +2,7 @@
 use mathlib.Core.Path.{_≡_, refl, sym, _∙_, ap}
 use mathlib.Core.List.{List, [], _∷_, _++_}
 use Prim.Native.Nat.{ℕ, zero, suc, _+_, _*_, _/_, _%_, _^_, _≤_, _<_}
-use native.Mathlib.Nat.{pow-suc, div-add-mod', div-lt-iff-lt-mul, mul-le-mul-right, mul-comm, mul-assoc, one-mul}
+use native.Mathlib.Nat.{pow-suc, div-add-mod', div-lt-iff-lt-mul, mul-le-mul-right, mul-comm, mul-assoc, one-mul, zero-mul, zero-add, add-mul}
 use native.Mathlib.Omega.{arith}
 use lib.Arith.{digits-div, digits-mod}
 use lib.ListN.{length, take, getD, length-append}
@@ -53,3 +53,32 @@ more-below (b ∷ l) x bytes =
 
 pub number-below : (l : List ℕ) → Bytes l → number l < 256 ^ length l
 number-below l bytes = let h = more-below l 0 bytes in let z : (0 + 1) * 256 ^ length l ≡ 256 ^ length l = one-mul (256 ^ length l) in omega arith
+
+-- ---- numbers in parts
+
+-- two bytes
+pub number-two : (l : List ℕ) → length l ≡ 2 → number l ≡ getD l 0 0 * 256 + getD l 1 0
+unfolding more
+number-two [] h = absurd (omega arith)
+number-two (a ∷ []) h = absurd (omega arith)
+number-two (a ∷ b ∷ []) h = omega arith
+number-two (a ∷ b ∷ c ∷ l) h = absurd (omega arith)
+
+more-from : (l : List ℕ) (x : ℕ) → more x l ≡ x * 256 ^ length l + number l
+unfolding more
+more-from [] x = omega arith
+more-from (b ∷ l) x =
+    let p = more-from l (x * 256 + b) in
+    let q = more-from l b in
+    let w = 256 ^ length l in
+    let e : (x * 256 + b) * w ≡ x * (w * 256) + b * w = rw (add-mul, mul-assoc, mul-comm 256 w) in
+    rw (pow-suc, zero-mul, zero-add) (omega arith)
+
+more-append : (l r : List ℕ) (x : ℕ) → more x (l ++ r) ≡ more (more x l) r
+unfolding more
+more-append [] r x = refl
+more-append (b ∷ l) r x = more-append l r (x * 256 + b)
+
+-- a part after another
+pub number-append : (l r : List ℕ) → number (l ++ r) ≡ number l * 256 ^ length r + number r
+number-append l r = more-append l r 0 ∙ more-from r (number l)

@@ -60,6 +60,15 @@ pub fn read_word(part: &[u8]) -> u64
     x
 }
 
+// The number in two bytes.
+pub fn read_pair(part: &[u8]) -> u64
+    requires { ⌜ length (now part) ≡ 2 ⌝ }
+    ensures { λ r. ⌜ r ≡ number (now (part .entry)) ⌝ }
+    ensures fits { λ r. ⌜ r < 256 ^ 2 ⌝ }
+{
+    wide(part[0]) * 256 + wide(part[1])
+}
+
 fn wide(b: u8) -> u64
     ensures { λ r. ⌜ r ≡ b ⌝ }
 {

@@ -33,10 +33,10 @@ use Rattle.batch.specs.declared.Asked.the-variants.{Is}
 use Rattle.batch.proofs.Histories.{of-lists, made-sound, list-left, list-kept, list-sound}
 use Rattle.batch.proofs.Cuts.{Fits, single-left, single-answer, cut, asked-one, one-fits}
 use Rattle.pool_listing.specs.Listing.{written}
-use Rattle.image_parts.specs.Layout.{Layout, imageSize}
+use Rattle.image_parts.specs.Layout.{Layout, Lawful, imageSize}
 use Rattle.image_writing.specs.Writing.{imageOf}
 use Rattle.image.specs.Writing.{Image}
-use Rattle.image_parts.proofs.Lawful.{Lawful, small-pool}
+use Rattle.image_parts.proofs.Lawful.{small-pool}
 use Rattle.image.proofs.Rounds.{read-written, accepted-image}
 use Rattle.c_calls.specs.CCalls.{over, callOver, newOver, Returned, returned, finished}
 use Rattle.c_calls.specs.Images.{images}

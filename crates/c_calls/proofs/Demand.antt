@@ -18,9 +18,9 @@ use Rattle.pool_state.proofs.Book.{book-back}
 use Rattle.calls.specs.Calls.{voucherFrom}
 use Rattle.calls.specs.declared.Outcome.{Outcome}
 use Rattle.memory_allocator.proofs.Steps.{sound-held, made-held, made-voucher}
-use Rattle.image_parts.specs.Layout.{Layout, imageSize}
+use Rattle.image_parts.specs.Layout.{Layout, Lawful, imageSize}
 use Rattle.image_writing.specs.Writing.{imageOf}
-use Rattle.image_parts.proofs.Lawful.{Lawful, small-pool}
+use Rattle.image_parts.proofs.Lawful.{small-pool}
 use Rattle.image_reading.specs.Reading.{stateIn}
 use Rattle.image.specs.Reading.{Handed}
 use Rattle.image.proofs.Fitting.{sound-fits}

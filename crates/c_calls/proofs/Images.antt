@@ -13,9 +13,9 @@ use Rattle.calls.proofs.Numbers.{signed-voucher}
 use Rattle.core_serve.specs.Made.{made}
 use Rattle.calls.specs.declared.Outcome.{Outcome}
 use Rattle.memory_allocator.proofs.Refusals.{refused-same}
-use Rattle.image_parts.specs.Layout.{Layout}
+use Rattle.image_parts.specs.Layout.{Layout, Lawful}
 use Rattle.image_writing.specs.Writing.{imageOf}
-use Rattle.image_parts.proofs.Lawful.{Lawful, small-pool}
+use Rattle.image_parts.proofs.Lawful.{small-pool}
 use Rattle.image.proofs.Rounds.{read-written}
 use Rattle.c_calls.specs.CCalls.{Returned, finished, over, callOver}
 

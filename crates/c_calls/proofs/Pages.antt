@@ -15,9 +15,9 @@ use Rattle.pages.specs.States.{pageMade}
 use Rattle.pages.proofs.Same.{page-same}
 use Rattle.pages.proofs.Paged.{page-demand}
 use Rattle.bytes_be.specs.Numbers.{Bytes}
-use Rattle.image_parts.specs.Layout.{Layout, imageSize}
+use Rattle.image_parts.specs.Layout.{Layout, Lawful, imageSize}
 use Rattle.image.specs.Reading.{Handed, readingOf}
-use Rattle.image_parts.proofs.Lawful.{Lawful, small-pool}
+use Rattle.image_parts.proofs.Lawful.{small-pool}
 use Rattle.image.proofs.Rounds.{read-written, accepted-image}
 use Rattle.c_calls.specs.CCalls.{over, callOver, pagesOver}
 use Rattle.c_calls.specs.Images.{images, pagesOfImages}

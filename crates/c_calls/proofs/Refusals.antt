@@ -12,10 +12,9 @@ use Rattle.calls.specs.declared.Answer.{Answer}
 use Rattle.calls.specs.declared.Answer.the-variants.{Accepted, NoEntry, InvalidEntry, NoMemory, InvalidRequest}
 use Rattle.calls.specs.declared.Outcome.{Outcome}
 use Rattle.bytes_be.specs.Numbers.{Bytes}
-use Rattle.image_parts.specs.Layout.{Layout, imageSize}
+use Rattle.image_parts.specs.Layout.{Layout, Lawful, imageSize}
 use Rattle.image_writing.specs.Writing.{imageOf}
 use Rattle.image.specs.Writing.{Image}
-use Rattle.image_parts.proofs.Lawful.{Lawful}
 use Rattle.image.proofs.Ways.{framed-not, unframed}
 use Rattle.image.proofs.Rounds.{refused-exactly}
 use Rattle.c_calls.specs.CCalls.{Returned, returned, finished, over, callOver, newOver}

@@ -16,9 +16,8 @@ use Rattle.calls.specs.declared.Answer.the-variants.{Accepted, InvalidEntry}
 use Rattle.calls.specs.declared.Outcome.{Outcome}
 use Rattle.batch.proofs.Histories.{list-sound}
 use Rattle.bytes_be.specs.Numbers.{Bytes}
-use Rattle.image_parts.specs.Layout.{Layout}
+use Rattle.image_parts.specs.Layout.{Layout, Lawful}
 use Rattle.image.specs.Reading.{Handed, readingOf}
-use Rattle.image_parts.proofs.Lawful.{Lawful}
 use Rattle.image.proofs.Rounds.{read-written, accepted-image}
 use Rattle.door_copies.specs.Copies.{Lists, imported, Imports}
 

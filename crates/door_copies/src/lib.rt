@@ -6,7 +6,7 @@ use calls::INVALID_ENTRY;
 use check_state::is_sound_in;
 use fields::clear;
 use image_parts::layout::IMAGE;
-use image_reading::read_fields;
+use image_reading::read_current;
 use image_writing::write_fields;
 use pool_state::LISTS;
 use pool_state::NONE;
@@ -106,7 +106,7 @@ fn is_image(image: &[u8]) -> bool
     let mut next = [NONE; POOL];
     let mut lprev = [NONE; POOL];
     let mut lnext = [NONE; POOL];
-    read_fields(
+    read_current(
         image,
         &mut total,
         &mut first,
@@ -152,7 +152,7 @@ pub extern "C" fn cinghjalofa_fields_import(
             lprev,
             lnext,
         );
-        let _again = read_fields(
+        let _again = read_current(
             image,
             total,
             first,

@@ -18,14 +18,13 @@ use Rattle.pool_state.proofs.States.{by-tab}
 use Rattle.check_meaning.specs.Paragraph.{Link}
 use Rattle.bytes_be.specs.Numbers.{be, number}
 use Rattle.bytes_be.proofs.Laws.{length-be, number-be}
-use Rattle.image_parts.specs.Layout.{Layout, word, noLink, lengthAt, lengthSize, totalAt, firstAt, headsAt, recordsAt, endAt, enabledAt, linksAt, recordSize, imageSize, restSize}
+use Rattle.image_parts.specs.Layout.{Layout, Lawful, word, noLink, lengthAt, lengthSize, totalAt, firstAt, headsAt, recordsAt, endAt, enabledAt, linksAt, recordSize, imageSize, restSize}
 use Rattle.image_parts.specs.Written.{joined, linkNumber, flagNumber, linkBytes, recordBytes, headBytes}
 use Rattle.image_writing.specs.Writing.{entryAt, imageOf}
 use Rattle.image_parts.specs.Read.{numberIn, linkOf, numbersIn, linksIn, flagsIn, bits}
 use Rattle.image_reading.specs.Reading.{stateIn}
 use Rattle.image_parts.specs.declared.records.MemoryEntry.{MemoryEntry}
 use Rattle.image_parts.proofs.Parts.{length-joined, length-record, length-head, record-room}
-use Rattle.image_parts.proofs.Lawful.{Lawful}
 use Rattle.image_parts.proofs.Places.{number-in, number-at, one-byte}
 use Rattle.image.proofs.Ways.{Frame}
 use Rattle.image.proofs.Fitting.{Fits}
@@ -116,40 +115,43 @@ module _ (f : Layout) (lawful : Lawful f) where
     abbrev heads : List ℕ
     heads = linkBytes f (s .«free_list»)
 
+    abbrev low : List ℕ
+    low = be (f .low) 0
+
     top-length : length top ≡ totalAt
     top-length = simp (length-append, length-be)
 
-    head-length : length (headBytes f (s .«free_size») (s .«first_entry» .0) (s .«free_list»)) ≡ recordsAt f
-    head-length = length-head f _ _ (s .«free_list») sizeLists (fit .sized .heads)
+    head-length : length (headBytes f (s .«free_size») (s .«first_entry» .0) (s .«free_list») 0) ≡ recordsAt f
+    head-length = length-head f _ _ (s .«free_list») 0 sizeLists (fit .sized .heads)
 
     image-length : length (imageOf f s) ≡ imageSize f
     unfolding imageOf
-    image-length = length-append (headBytes f (s .«free_size») (s .«first_entry» .0) (s .«free_list»)) rest ∙ (let h = head-length in let r = length-joined (recordSize f) piece (λ i. length-record f _) (f .records) 0 in omega arith)
+    image-length = length-append (headBytes f (s .«free_size») (s .«first_entry» .0) (s .«free_list») 0) rest ∙ (let h = head-length in let r = length-joined (recordSize f) piece (λ i. length-record f _) (f .records) 0 in omega arith)
 
     total-back : numberIn (imageOf f s) totalAt word ≡ s .«free_size»
     unfolding imageOf headBytes
     total-back =
-        let c : imageOf f s ≡ top ++ (total ++ ((first ++ heads) ++ rest)) = simp append-assoc in
+        let c : imageOf f s ≡ top ++ (total ++ ((first ++ (heads ++ low)) ++ rest)) = simp append-assoc in
         rw c (number-in top total _ totalAt word top-length (length-be word _) ∙ number-be word _ (fit .total))
 
     first-back : linkOf f (numberIn (imageOf f s) firstAt (f .link)) ≡ s .«first_entry» .0
     unfolding imageOf headBytes
     first-back =
-        let c : imageOf f s ≡ (top ++ total) ++ (first ++ (heads ++ rest)) = simp append-assoc in
+        let c : imageOf f s ≡ (top ++ total) ++ (first ++ (heads ++ (low ++ rest))) = simp append-assoc in
         let l : length (top ++ total) ≡ firstAt = simp (length-append, length-be) in
         rw c (ap (linkOf f) (number-in (top ++ total) first _ firstAt (f .link) l (length-be (f .link) _) ∙ number-be (f .link) _ (link-below _)) ∙ link-round _ (fit .first))
 
     heads-back : (k : ℕ) → k < sizeLists → linkOf f (numberIn (imageOf f s) (headsAt f + f .link * k) (f .link)) ≡ getD (s .«free_list») k 0
     unfolding imageOf headBytes
     heads-back k b =
-        let c : imageOf f s ≡ ((top ++ total) ++ first) ++ (heads ++ rest) = simp append-assoc in
+        let c : imageOf f s ≡ ((top ++ total) ++ first) ++ (heads ++ (low ++ rest)) = simp append-assoc in
         let l : length ((top ++ total) ++ first) ≡ headsAt f = simp (length-append, length-be) in
-        rw c (links-round ((top ++ total) ++ first) rest (s .«free_list») (headsAt f) k l (let z = fit .sized .heads in omega arith) (fit .heads k b))
+        rw c (links-round ((top ++ total) ++ first) (low ++ rest) (s .«free_list») (headsAt f) k l (let z = fit .sized .heads in omega arith) (fit .heads k b))
 
     field-back : (o k i : ℕ) → o + k ≤ recordSize f → i < f .records → numberIn (imageOf f s) (recordsAt f + o + recordSize f * i) k ≡ numberIn (piece i) o k
     unfolding imageOf
     field-back o k i h b =
-        let head = headBytes f (s .«free_size») (s .«first_entry» .0) (s .«free_list») in
+        let head = headBytes f (s .«free_size») (s .«first_entry» .0) (s .«free_list») 0 in
         let c : imageOf f s ≡ head ++ (rest ++ []) = simp append-nil in
         rw c (number-at piece head [] (recordsAt f) (recordSize f) (f .records) i head-length (λ j. length-record f _) b o k h)
 
@@ -194,13 +196,13 @@ module _ (f : Layout) (lawful : Lawful f) where
     version-back : numberIn (imageOf f s) 0 lengthAt ≡ f .version
     unfolding imageOf headBytes
     version-back =
-        let c : imageOf f s ≡ [] ++ (be lengthAt (f .version) ++ (be lengthSize (restSize f) ++ ((total ++ (first ++ heads)) ++ rest))) = simp append-assoc in
+        let c : imageOf f s ≡ [] ++ (be lengthAt (f .version) ++ (be lengthSize (restSize f) ++ ((total ++ (first ++ (heads ++ low))) ++ rest))) = simp append-assoc in
         rw c (number-in [] (be lengthAt (f .version)) _ 0 lengthAt refl (length-be lengthAt _) ∙ number-be lengthAt (f .version) (lawful .versions))
 
     rest-back : numberIn (imageOf f s) lengthAt lengthSize ≡ restSize f
     unfolding imageOf headBytes
     rest-back =
-        let c : imageOf f s ≡ be lengthAt (f .version) ++ (be lengthSize (restSize f) ++ ((total ++ (first ++ heads)) ++ rest)) = simp append-assoc in
+        let c : imageOf f s ≡ be lengthAt (f .version) ++ (be lengthSize (restSize f) ++ ((total ++ (first ++ (heads ++ low))) ++ rest)) = simp append-assoc in
         rw c (number-in (be lengthAt (f .version)) (be lengthSize (restSize f)) _ lengthAt lengthSize (length-be lengthAt _) (length-be lengthSize _) ∙ number-be lengthSize (restSize f) (lawful .rests))
 
     pub frame-back : Frame f (imageOf f s)

@@ -12,10 +12,10 @@ use Rattle.linked_lists.specs.Links.{none}
 use Rattle.check_state.specs.IsSound.{isSound}
 use Rattle.check_meaning.proofs.Exact.{sound-passes, passes-sound}
 use Rattle.bytes_be.specs.Numbers.{Bytes}
-use Rattle.image_parts.specs.Layout.{Layout, imageSize}
+use Rattle.image_parts.specs.Layout.{Layout, Lawful, imageSize}
 use Rattle.image_writing.specs.Writing.{imageOf}
 use Rattle.image.specs.Writing.{Image, numberOf, written, writingOf}
-use Rattle.image_parts.proofs.Lawful.{Lawful, small-pool}
+use Rattle.image_parts.proofs.Lawful.{small-pool}
 use Rattle.image_parts.proofs.Loops.{both}
 use Rattle.image_reading.specs.Reading.{framed, stateIn}
 use Rattle.image_reading.proofs.Whole.{state-sized}

@@ -13,11 +13,11 @@ use Rattle.pool_state.proofs.States.{at-tab}
 use Rattle.check_meaning.specs.Paragraph.{Fresh}
 use Rattle.check_meaning.proofs.Exact.{paragraph, passes-sound}
 use Rattle.bytes_be.specs.Numbers.{Bytes}
-use Rattle.image_parts.specs.Layout.{Layout, recordsAt, enabledAt, recordSize}
+use Rattle.image_parts.specs.Layout.{Layout, Lawful, recordsAt, enabledAt, recordSize}
 use Rattle.image_parts.specs.Read.{flagsIn}
 use Rattle.image_parts.specs.Written.{recordBytes}
 use Rattle.image_parts.specs.declared.records.MemoryEntry.{MemoryEntry}
-use Rattle.image_parts.proofs.Lawful.{Lawful, small-pool}
+use Rattle.image_parts.proofs.Lawful.{small-pool}
 use Rattle.image_parts.proofs.Loops.{both}
 use Rattle.image_writing.specs.Writing.{entryAt, flagIn, Standing}
 use Rattle.image_reading.specs.Reading.{stateIn, framed, readable}

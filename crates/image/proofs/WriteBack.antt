@@ -15,12 +15,11 @@ use Rattle.linked_lists.proofs.Laws.{same?, length-tab}
 use Rattle.rules.specs.Rules.{sizeLists}
 use Rattle.pool_state.proofs.States.{at-tab}
 use Rattle.bytes_be.specs.Numbers.{be, Bytes}
-use Rattle.image_parts.specs.Layout.{Layout, word, noLink, lengthAt, lengthSize, totalAt, firstAt, headsAt, recordsAt, endAt, enabledAt, linksAt, recordSize, imageSize}
+use Rattle.image_parts.specs.Layout.{Layout, Lawful, word, noLink, lengthAt, lengthSize, totalAt, firstAt, headsAt, lowAt, recordsAt, endAt, enabledAt, linksAt, recordSize, imageSize}
 use Rattle.image_parts.specs.Written.{joined, linkNumber, flagNumber, linkBytes, recordBytes, headBytes}
 use Rattle.image_writing.specs.Writing.{entryAt, imageOf}
 use Rattle.image_parts.specs.Read.{numberIn, linkOf, numbersIn, linksIn, flagsIn}
 use Rattle.image_reading.specs.Reading.{stateIn}
-use Rattle.image_parts.proofs.Lawful.{Lawful}
 use Rattle.image_parts.proofs.Loops.{bit-at}
 use Rattle.image_parts.proofs.Places.{one-byte, beside, part-below, again, joined-take}
 use Rattle.image_parts.proofs.Parts.{record-room}
@@ -118,6 +117,11 @@ module _ (f : Layout) (lawful : Lawful f) where
     unfolding stateIn
     total-again = head-part totalAt word _ (omega arith) refl
 
+    -- no bytes
+    low-again : be (f .low) 0 ≡ take (f .low) (drop (lowAt f) l)
+    unfolding be
+    low-again = rw (lawful .lows)
+
     pub image-again : imageOf f (stateIn f l) ≡ l
     unfolding imageOf headBytes
     image-again =
@@ -127,9 +131,11 @@ module _ (f : Layout) (lawful : Lawful f) where
         let rest : joined (f .records) 0 (λ i. recordBytes f (entryAt (stateIn f l) i)) ≡ take (recordSize f * f .records) (drop (recordsAt f + recordSize f * 0) l)
         = joined-take _ l (recordsAt f) (recordSize f) (f .records) 0 (λ i b. record-again i (omega arith)) in
         let z = mul-zero (recordSize f) in
-        let p₅ = beside l firstAt w n (headsAt f) (w + n) _ _ first-again heads-again refl refl in
-        let p₄ = beside l totalAt word (w + n) firstAt (word + (w + n)) _ _ total-again p₅ refl refl in
-        let p₃ = beside l lengthAt lengthSize (word + (w + n)) totalAt (lengthSize + (word + (w + n))) _ _ (head-part lengthAt lengthSize _ (omega arith) (frame .rests)) p₄ refl refl in
-        let p₂ = beside l 0 lengthAt (lengthSize + (word + (w + n))) lengthAt (recordsAt f) _ _ (head-part 0 lengthAt _ (omega arith) (frame .versions)) p₃ refl (omega arith) in
+        let b = f .low in
+        let p₆ = beside l (headsAt f) n b (lowAt f) (n + b) _ _ heads-again low-again refl refl in
+        let p₅ = beside l firstAt w (n + b) (headsAt f) (w + (n + b)) _ _ first-again p₆ refl refl in
+        let p₄ = beside l totalAt word (w + (n + b)) firstAt (word + (w + (n + b))) _ _ total-again p₅ refl refl in
+        let p₃ = beside l lengthAt lengthSize (word + (w + (n + b))) totalAt (lengthSize + (word + (w + (n + b)))) _ _ (head-part lengthAt lengthSize _ (omega arith) (frame .rests)) p₄ refl refl in
+        let p₂ = beside l 0 lengthAt (lengthSize + (word + (w + (n + b)))) lengthAt (recordsAt f) _ _ (head-part 0 lengthAt _ (omega arith) (frame .versions)) p₃ refl (omega arith) in
         let p₁ = beside l 0 (recordsAt f) (recordSize f * f .records) (recordsAt f + recordSize f * 0) (imageSize f) _ _ p₂ rest (omega arith) refl in
         p₁ ∙ take-all (imageSize f) l (omega arith)

@@ -1,7 +1,7 @@
 // Reading an image.
 use crate::ImageAnswer;
 use crate::Reading;
-use image_reading::read_fields;
+use image_reading::read_current;
 use pool_state::LISTS;
 use pool_state::MemoryAllocator;
 use pool_state::NONE;
@@ -37,7 +37,7 @@ pub fn read_image(image: &[u8]) -> Reading
     let mut next = [NONE; POOL];
     let mut lprev = [NONE; POOL];
     let mut lnext = [NONE; POOL];
-    if read_fields(
+    if read_current(
         image,
         &mut total,
         &mut first,

@@ -18,8 +18,8 @@ use Rattle.batch.specs.Lists.{fitted, Served, Serves}
 use Rattle.batch.proofs.Histories.{list-sound}
 use Rattle.batch.proofs.Ways.{unfitted, done}
 use Rattle.bytes_be.specs.Numbers.{Bytes}
-use Rattle.image_parts.specs.Layout.{Layout, imageSize}
-use Rattle.image_parts.proofs.Lawful.{Lawful, small-pool}
+use Rattle.image_parts.specs.Layout.{Layout, Lawful, imageSize}
+use Rattle.image_parts.proofs.Lawful.{small-pool}
 use Rattle.image_parts.proofs.Loops.{both}
 use Rattle.image_writing.specs.Writing.{entryAt, imageOf, Standing}
 use Rattle.image_reading.specs.Reading.{stateIn, framed, readable}

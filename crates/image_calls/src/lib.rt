@@ -2,7 +2,7 @@
 use batch::list_fits;
 use batch::serve_list_in;
 use calls::INVALID_ENTRY;
-use image_reading::read_fields;
+use image_reading::read_current;
 use image_writing::write_fields;
 use pool_state::LISTS;
 use pool_state::NONE;
@@ -82,7 +82,7 @@ pub fn list_over(image: &mut [u8], calls: &[u64], answers: &mut [i64]) -> i64
     let mut next = [NONE; POOL];
     let mut lprev = [NONE; POOL];
     let mut lnext = [NONE; POOL];
-    let readable = read_fields(
+    let readable = read_current(
         &image[..],
         &mut total,
         &mut first,

@@ -29,9 +29,9 @@ module _ (f : Layout) where
   unfolding recordBytes
   length-record e = simp (length-append, length-be, length-links) (omega arith)
 
-  pub length-head : (total first : ℕ) (heads : List ℕ) (k : ℕ) → length heads ≡ k → length (headBytes f total first heads) ≡ headsAt f + f .link * k
+  pub length-head : (total first : ℕ) (heads : List ℕ) (low k : ℕ) → length heads ≡ k → length (headBytes f total first heads low) ≡ headsAt f + f .link * k + f .low
   unfolding headBytes
-  length-head total first heads k h = simp (length-append, length-be, length-links, h) (omega arith)
+  length-head total first heads low k h = simp (length-append, length-be, length-links, h) (omega arith)
 
   -- a field of k bytes at o in record i lies in the image
   pub record-room : (o k i : ℕ) → o + k ≤ recordSize f → i < f .records → recordsAt f + o + recordSize f * i + k ≤ imageSize f
@@ -50,21 +50,30 @@ pub record Begun (xs p zs : List ℕ) (a : ℕ) : Type 0 where
 pub begin : (xs : List ℕ) → Begun xs [] xs 0
 begin xs = record { parts = refl; size = refl }
 
+-- a part of k bytes
+pub put-part : (xs p zs y t : List ℕ) (a k : ℕ) → a + k ≤ length xs → Begun xs p zs a → y ≡ t → length t ≡ k → Begun xs (p ++ t) (putMid a k zs y) (a + k)
+put-part xs p zs y t a k room g e len =
+    record {
+      parts = rw (g .parts, take-at p (drop a xs) a (g .size), drop-at p (drop a xs) a (g .size), drop-drop k a xs, e, append-assoc);
+      size = length-append p t ∙ (let s = g .size in omega arith);
+    }
+
 -- a number of k bytes
 pub put-number : (xs p zs y : List ℕ) (a k x x′ : ℕ) → a + k ≤ length xs → Begun xs p zs a → y ≡ be (length (midOf a k zs)) x → x ≡ x′ → Begun xs (p ++ be k x′) (putMid a k zs y) (a + k)
 put-number xs p zs y a k x x′ room g e same =
     let l : length (midOf a k zs) ≡ k = rw (g .parts, drop-at p (drop a xs) a (g .size)) (simp (length-take, length-drop) (omega arith)) in
     let e′ : y ≡ be k x′ = rw (l, same) at e in
-    record {
-      parts = rw (g .parts, take-at p (drop a xs) a (g .size), drop-at p (drop a xs) a (g .size), drop-drop k a xs, e′, append-assoc);
-      size = length-append p (be k x′) ∙ (let s = g .size in let b = length-be k x′ in omega arith);
-    }
+    put-part xs p zs y (be k x′) a k room g e′ (length-be k x′)
 
 -- the part that ends the list
 pub put-last : (xs p zs y t : List ℕ) (a k : ℕ) → length xs ≡ a + k → Begun xs p zs a → y ≡ t → putMid a k zs y ≡ p ++ t
 put-last xs p zs y t a k all g e =
     let end : drop (a + k) xs ≡ [] = drop-of-length-le xs {i = a + k} (omega arith) in
     rw (g .parts, take-at p (drop a xs) a (g .size), drop-at p (drop a xs) a (g .size), drop-drop k a xs, end, append-nil, e)
+
+-- nothing is left
+pub put-all : (xs p zs : List ℕ) (a : ℕ) → length xs ≡ a → Begun xs p zs a → zs ≡ p
+put-all xs p zs a all g = let end : drop a xs ≡ [] = drop-of-length-le xs {i = a} (omega arith) in rw (g .parts, end, append-nil)
 
 -- the part that begins the list, where u stands behind it
 pub put-front : (old xs y t u : List ℕ) (a : ℕ) → a ≤ length old → xs ≡ take a old ++ u → y ≡ t → putMid 0 a xs y ≡ t ++ u

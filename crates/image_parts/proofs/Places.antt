@@ -7,7 +7,7 @@ use native.Mathlib.Omega.{arith}
 use lib.ListN.{length, take, drop, getD, length-append, length-take, length-drop}
 use lib.Seq.{take-at, drop-at, drop-drop, drop-cons, take-add, drop-append-le, take-append-le, getD-take, getD-drop}
 use Rattle.bytes_be.specs.Numbers.{be, more, number, Bytes}
-use Rattle.bytes_be.proofs.Laws.{be-number, number-below}
+use Rattle.bytes_be.proofs.Laws.{be-number, number-below, number-append}
 use Rattle.image_parts.specs.Written.{joined}
 use Rattle.image_parts.specs.Read.{numberIn}
 use Rattle.image_parts.proofs.Parts.{length-joined}
@@ -54,6 +54,12 @@ module _ (piece : ℕ → List ℕ) (p q : List ℕ) (a w n i : ℕ) (lp : lengt
 
 glue : (l : List ℕ) (a j k : ℕ) → take j (drop a l) ++ take k (drop (a + j) l) ≡ take (j + k) (drop a l)
 glue l a j k = rw (take-add j k (drop a l), drop-drop j a l)
+
+-- the number in parts side by side
+pub number-beside : (l : List ℕ) (a j k : ℕ) → a + j + k ≤ length l → numberIn l a (j + k) ≡ numberIn l a j * 256 ^ k + numberIn l (a + j) k
+number-beside l a j k room =
+    let part : length (take k (drop (a + j) l)) ≡ k = simp (length-take, length-drop) (omega arith) in
+    ap number (sym (glue l a j k)) ∙ number-append (take j (drop a l)) (take k (drop (a + j) l)) ∙ ap (λ (m : ℕ). numberIn l a j * 256 ^ m + numberIn l (a + j) k) part
 
 pub beside : (l : List ℕ) (a j k b m : ℕ) (x y : List ℕ) → x ≡ take j (drop a l) → y ≡ take k (drop b l) → a + j ≡ b → j + k ≡ m → x ++ y ≡ take m (drop a l)
 beside l a j k b m x y ex ey h g = rw (ex, ey, ← h, ← g) (glue l a j k)

@@ -1,15 +1,17 @@
--- Where each field stands in an image. A version of the layout has its number of records and of bytes of a link. Assumes nothing.
-use Prim.Native.Nat.{ℕ, _+_, _-_, _*_, _^_}
+-- Where each field stands in an image. A layout is a value: the version, the number of records, the bytes of a link, and those of a low figure after the heads. Assumes nothing.
+use Prim.Native.Nat.{ℕ, _+_, _-_, _*_, _^_, _<_, _≤_}
+use mathlib.Core.Path.{_≡_}
+use Rattle.linked_lists.specs.Links.{none}
 use Rattle.rules.specs.Rules.{sizeLists}
 use Rattle.pool_state.specs.Shown.{pool}
+use Rattle.image_parts.specs.declared.layout.Layout as code
 
-pub record Layout : Type 0 where
-  pub version : ℕ
-  pub records : ℕ
-  pub link : ℕ
+-- as the code has it
+abbrev pub Layout : Type 0
+Layout = code.Layout
 
 abbrev pub version1 : Layout
-version1 = record { version = 1; records = pool; link = 1 }
+version1 = record { version = 1; records = pool; link = 1; low = 0 }
 
 -- what the code writes and reads
 abbrev pub current : Layout
@@ -23,7 +25,7 @@ word = 8
 abbrev pub noLink : Layout → ℕ
 noLink f = 256 ^ (f .link) - 1
 
--- ---- the head: version, length of the rest, total, first, heads
+-- ---- the head: version, length of the rest, total, first, heads, low figure
 
 abbrev pub lengthAt : ℕ
 lengthAt = 1
@@ -40,8 +42,11 @@ firstAt = totalAt + word
 abbrev pub headsAt : Layout → ℕ
 headsAt f = firstAt + f .link
 
+abbrev pub lowAt : Layout → ℕ
+lowAt f = headsAt f + f .link * sizeLists
+
 abbrev pub recordsAt : Layout → ℕ
-recordsAt f = headsAt f + f .link * sizeLists
+recordsAt f = lowAt f + f .low
 
 -- ---- a record, from its first byte: start, end, enabled, and its four links
 
@@ -69,3 +74,17 @@ imageSize f = recordsAt f + recordSize f * f .records
 -- the length field: the bytes after it
 abbrev pub restSize : Layout → ℕ
 restSize f = imageSize f - totalAt
+
+-- ---- its fields can hold its own numbers: the version, the length of the rest, and the number of each record in a link's bytes; no state has a low figure
+
+pub record Lawful (f : Layout) : Type 0 where
+  pub versions : f .version < 256 ^ lengthAt
+  pub rests : restSize f < 256 ^ lengthSize
+  pub records : f .records ≤ noLink f
+  pub links : noLink f ≤ none
+  pub lows : f .low ≡ 0
+
+-- and the arrays of a state have room for its records
+pub record Housed (f : Layout) : Type 0 where
+  pub lawful : Lawful f
+  pub room : f .records ≤ pool

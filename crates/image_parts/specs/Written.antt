@@ -29,6 +29,6 @@ recordBytes f e =
     be word (e .start .0) ++ (be word (e .end .0) ++ (be 1 (flagNumber (e .enabled)) ++
     linkBytes f (e .previous .0 ∷ e .next .0 ∷ e .«list_prev» .0 ∷ e .«list_next» .0 ∷ [])))
 
-unfoldable pub headBytes : Layout → ℕ → ℕ → List ℕ → List ℕ
-headBytes f total first heads =
-    be lengthAt (f .version) ++ (be lengthSize (restSize f) ++ (be word total ++ (be (f .link) (linkNumber f first) ++ linkBytes f heads)))
+unfoldable pub headBytes : Layout → ℕ → ℕ → List ℕ → ℕ → List ℕ
+headBytes f total first heads low =
+    be lengthAt (f .version) ++ (be lengthSize (restSize f) ++ (be word total ++ (be (f .link) (linkNumber f first) ++ (linkBytes f heads ++ be (f .low) low))))

@@ -2,6 +2,7 @@
 use crate::layout::FIRST;
 use crate::layout::HEADS;
 use crate::layout::LENGTH;
+use crate::layout::LOWEST;
 use crate::layout::RECORDS;
 use crate::layout::REST;
 use crate::layout::TOTAL;
@@ -17,13 +18,14 @@ ghost use lib.ListN.{length};
 ghost use Rattle.image_parts.specs.Layout.{current, recordsAt};
 ghost use Rattle.image_parts.specs.Written.{headBytes};
 
-pub fn write_head(part: &mut [u8], total: u64, first: RecordIndex, heads: &[u16; LISTS])
+pub fn write_head(part: &mut [u8], total: u64, first: RecordIndex, heads: &[u16; LISTS], low: u64)
     requires { ⌜ length (now part) ≡ recordsAt current ⌝ }
-    ensures { λ _. ⌜ now (part .exit) ≡ headBytes current total (first .0) (now (heads .entry)) ⌝ }
+    ensures { λ _. ⌜ now (part .exit) ≡ headBytes current total (first .0) (now (heads .entry)) low ⌝ }
 {
     put_be(&mut part[0..LENGTH], VERSION);
     put_be(&mut part[LENGTH..TOTAL], REST);
     put_word(&mut part[TOTAL..FIRST], total);
     put_be(&mut part[FIRST..HEADS], link_number(first));
-    write_links(&mut part[HEADS..RECORDS], heads);
+    write_links(&mut part[HEADS..LOWEST], heads);
+    put_be(&mut part[LOWEST..RECORDS], low);
 }

@@ -1,13 +1,15 @@
 // Links in bytes.
 use crate::layout::LINK;
+use crate::layout::Layout;
 use crate::layout::NO_LINK;
+use crate::layout::no_link;
 use bytes_be::put_be;
 use pool_state::NONE;
 use pool_state::RecordIndex;
 ghost use mathlib.Core.Path.{_≡_};
-ghost use Prim.Native.Nat.{_*_, _<_, _^_};
+ghost use Prim.Native.Nat.{_*_, _≤_};
 ghost use lib.ListN.{length};
-ghost use Rattle.image_parts.specs.Layout.{current};
+ghost use Rattle.image_parts.specs.Layout.{Lawful, current, noLink};
 ghost use Rattle.image_parts.specs.Written.{linkNumber, linkBytes};
 ghost use Rattle.image_parts.specs.Read.{linkOf};
 
@@ -21,11 +23,12 @@ pub fn link_number(r: RecordIndex) -> u64
     NO_LINK as u64
 }
 
-pub fn link_of(x: u64) -> RecordIndex
-    requires { ⌜ x < 2 ^ 16 ⌝ }
-    ensures { λ r. ⌜ r .0 ≡ linkOf current x ⌝ }
+pub fn link_of(form: Layout, x: u64) -> RecordIndex
+    requires { ⌜ Lawful form ⌝ }
+    requires { ⌜ x ≤ noLink form ⌝ }
+    ensures { λ r. ⌜ r .0 ≡ linkOf form x ⌝ }
 {
-    if x == NO_LINK as u64 {
+    if x == no_link(form) {
         return RecordIndex(NONE);
     }
     RecordIndex(x as u16)

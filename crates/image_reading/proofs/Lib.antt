@@ -1,3 +1,4 @@
 -- Laws of reading an image.
 pub mod Tests
+pub mod Grown
 pub mod Whole

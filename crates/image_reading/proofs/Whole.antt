@@ -19,13 +19,14 @@ use Rattle.check_state.specs.IsSound.{isSound}
 use Rattle.check_meaning.specs.Paragraph.{Sized, Fresh, Paragraph}
 use Rattle.check_meaning.proofs.Exact.{paragraph, passes-sound}
 use Rattle.bytes_be.specs.Numbers.{Bytes}
-use Rattle.image_parts.specs.Layout.{Layout, word, noLink, lengthAt, lengthSize, totalAt, firstAt, headsAt, recordsAt, endAt, enabledAt, linksAt, recordSize, recordAt, imageSize, restSize}
+use Rattle.image_parts.specs.Layout.{Layout, Lawful, word, noLink, lengthAt, lengthSize, totalAt, firstAt, headsAt, recordsAt, endAt, enabledAt, linksAt, recordSize, recordAt, imageSize, restSize}
 use Rattle.image_parts.specs.Read.{numberIn, linkOf, numbersIn, linksIn, flagsIn, bits}
-use Rattle.image_parts.proofs.Lawful.{Lawful, small-pool}
+use Rattle.image_parts.proofs.Lawful.{small-pool}
+use Rattle.image_reading.proofs.Grown.{Grows, filled-by, grown-state, same-verdict}
 use Rattle.image_parts.proofs.Loops.{both, bit-at}
 use Rattle.image_parts.proofs.Parts.{record-room}
 use Rattle.image_parts.proofs.Places.{part-below}
-use Rattle.image_reading.specs.Reading.{stateIn, framed, readable, headed}
+use Rattle.image_reading.specs.Reading.{stateIn, framed, readable, headed, grown}
 use Rattle.image_records.specs.Records.{linkNumberIn, linkIn, freshAt, flagAt, plainAt, plain, RecordsIn}
 use Rattle.image_records.proofs.Decoding.{number-here, start-here, flag-here, link-here, plain-unused, plain-used}
 
@@ -67,13 +68,25 @@ emptied n s e =
       lnext = ap (λ (x : MemoryAllocator). x .«list_next») g;
     }
 
--- the fields of the state, read one by one
-pub state-read : (f : Layout) (l : List ℕ) (total first : ℕ) (heads start end : List ℕ) (enabled : List Bool) (previous next lprev lnext : List ℕ)
+-- the fields of the state, read one by one, and filled up to m records
+pub state-grows : (m : ℕ) (f : Layout) (l : List ℕ) (total first : ℕ) (heads start end : List ℕ) (enabled : List Bool) (previous next lprev lnext : List ℕ)
     → total ≡ numberIn l totalAt word → first ≡ linkOf f (numberIn l firstAt (f .link)) → heads ≡ linksIn f l (headsAt f) (f .link) sizeLists
-    → RecordsIn f l start end enabled previous next lprev lnext → arrays total first heads start end enabled previous next lprev lnext ≡ stateIn f l
-unfolding stateIn
-state-read f l total first heads start end enabled previous next lprev lnext e₁ e₂ e₃ r =
-    (λ z. arrays (e₁ z) (e₂ z) (e₃ z) (r .starts z) (r .ends z) (r .flags z) (r .previouses z) (r .nexts z) (r .lprevs z) (r .lnexts z))
+    → RecordsIn m (f .records) f l start end enabled previous next lprev lnext → Grows (f .records) m (stateIn f l) (arrays total first heads start end enabled previous next lprev lnext)
+unfolding stateIn numbersIn linksIn flagsIn
+state-grows m f l total first heads start end enabled previous next lprev lnext e₁ e₂ e₃ r =
+    let n = f .records in
+    record {
+      total = e₁;
+      first = e₂;
+      heads = e₃;
+      starts = filled-by _ _ m n _ _ start (λ j b. sym (at-tab 0 n _ j b)) (r .starts);
+      ends = filled-by _ _ m n _ _ end (λ j b. sym (at-tab 0 n _ j b)) (r .ends);
+      flags = filled-by _ _ m n _ _ enabled (λ j b. sym (at-tab false n _ j b)) (r .flags);
+      previouses = filled-by _ _ m n _ _ previous (λ j b. sym (at-tab 0 n _ j b)) (r .previouses);
+      nexts = filled-by _ _ m n _ _ next (λ j b. sym (at-tab 0 n _ j b)) (r .nexts);
+      lprevs = filled-by _ _ m n _ _ lprev (λ j b. sym (at-tab 0 n _ j b)) (r .lprevs);
+      lnexts = filled-by _ _ m n _ _ lnext (λ j b. sym (at-tab 0 n _ j b)) (r .lnexts);
+    }
 
 regroup : (a b c d : Bool) → (a && (b && (c && d))) ≡ ((a && (b && c)) && d)
 regroup true true c d = refl
@@ -108,8 +121,16 @@ module _ (f : Layout) (l : List ℕ) where
       let small : getD l (recordsAt f + enabledAt + recordSize f * i) 0 ≤ 1 = rw (← flag-here f l i) (flag-small (recordAt f i) (p .0)) in
       rw (le-leb _ 1 small) (plain-bits m (suc i) (p .1))
 
-  pub check-decides : headed f l ≡ true → plain f l n 0 ≡ true → (s : MemoryAllocator) → s ≡ stateIn f l → (t : Bool) → t ≡ isSound n s → t ≡ readable f l
-  check-decides h p s es t et = rw (framed-headed, h, plain-bits n 0 p, ← es, ← et)
+  module _ (m : ℕ) (le : n ≤ m) (most : m ≤ none) (s : MemoryAllocator) (g : Grows n m (stateIn f l) s) where
+    pub check-decides : headed f l ≡ true → plain f l n 0 ≡ true → (t : Bool) → t ≡ isSound m s → t ≡ readable f l
+    check-decides h p t et = rw (framed-headed, h, plain-bits n 0 p) (et ∙ same-verdict n m le most (stateIn f l) s (state-sized f l) g)
+
+    pub checked-state : readable f l ≡ true → s ≡ grown n m (stateIn f l)
+    checked-state e = grown-state n m le most (stateIn f l) s (state-sized f l) g (passes-sound n (let h = le in omega arith) (stateIn f l) (state-sized f l) (both (framed f l) _ e .1))
+
+  -- a layout with all the records: the state is that of the bytes
+  pub whole-state : n ≤ none → readable f l ≡ true → grown n n (stateIn f l) ≡ stateIn f l
+  whole-state small e = passes-sound n small (stateIn f l) (state-sized f l) (both (framed f l) _ e .1) .state
 
   -- ---- of a sound state, every record is in use or fresh
 

@@ -7,6 +7,7 @@ use lib.Dec.{eqb}
 use lib.ListN.{length}
 use Rattle.rules.specs.Rules.{sizeLists, empty}
 use Rattle.pool_state.specs.Lent.{Lent, was, OfFields, fields, OfLent, turns}
+use Rattle.pool_state.specs.Sound.{bookOf}
 use Rattle.pool_state.specs.State.{arrays, stateOf}
 use Rattle.pool_state.specs.declared.MemoryAllocator.{MemoryAllocator}
 use Rattle.check_state.specs.IsSound.{isSound}
@@ -44,10 +45,22 @@ headed f l = eqb (length l) (imageSize f) && (eqb (numberIn l 0 lengthAt) (f .ve
 abbrev pub FreshFields : ℕ → OfFields
 FreshFields n = fields (λ s. s ≡ stateOf n empty)
 
--- r tells whether the bytes are the image of a sound state; where they are, the ten fields become that state
-pub record ReadsState (f : Layout) (l : List ℕ) (r : Bool) (s : MemoryAllocator) : Type 0 where
+-- the state of m records that holds the book of a state of n
+abbrev pub grown : ℕ → ℕ → MemoryAllocator → MemoryAllocator
+grown n m s = stateOf m (bookOf n s)
+
+-- r tells whether the bytes are the image of a sound state; where they are, the ten fields become that state, with m records
+pub record ReadsState (m : ℕ) (f : Layout) (l : List ℕ) (r : Bool) (s : MemoryAllocator) : Type 0 where
+  pub told : r ≡ readable f l
+  pub state : r ≡ true → s ≡ grown (f .records) m (stateIn f l)
+
+abbrev pub ReadsFields : ℕ → Layout → Lent (List ℕ) → Bool → OfLent
+ReadsFields m f image r = turns (λ s s′. ReadsState m f (was image) r s′)
+
+-- the same, of a layout that has all the records
+pub record ReadsCurrent (f : Layout) (l : List ℕ) (r : Bool) (s : MemoryAllocator) : Type 0 where
   pub told : r ≡ readable f l
   pub state : r ≡ true → s ≡ stateIn f l
 
-abbrev pub ReadsFields : Layout → Lent (List ℕ) → Bool → OfLent
-ReadsFields f image r = turns (λ s s′. ReadsState f (was image) r s′)
+abbrev pub ReadsCurrentFields : Layout → Lent (List ℕ) → Bool → OfLent
+ReadsCurrentFields f image r = turns (λ s s′. ReadsCurrent f (was image) r s′)

@@ -1,13 +1,12 @@
-// An image, read into lent fields.
+// An image of any layout, read into lent fields.
 use bytes_be::read_be;
 use check_state::is_sound_in;
 use image_parts::layout::FIRST;
-use image_parts::layout::HEADS;
-use image_parts::layout::IMAGE;
 use image_parts::layout::LENGTH;
-use image_parts::layout::REST;
+use image_parts::layout::Layout;
 use image_parts::layout::TOTAL;
-use image_parts::layout::VERSION;
+use image_parts::layout::current_layout;
+use image_parts::layout::image_size;
 use image_records::numbers::link_in;
 use image_records::numbers::read_links;
 use image_records::numbers::word_in;
@@ -16,27 +15,31 @@ use pool_state::LISTS;
 use pool_state::POOL;
 use pool_state::RecordIndex;
 ghost use mathlib.Core.Path.{_≡_};
-ghost use Rattle.image_parts.specs.Layout.{current};
+ghost use Rattle.image_parts.specs.Layout.{Lawful, Housed, current};
 ghost use Rattle.pool_state.specs.Lent.{was};
 ghost use Rattle.pool_state.specs.Shown.{pool};
-ghost use Rattle.image_reading.specs.Reading.{headed, FreshFields, ReadsFields};
+ghost use Rattle.image_reading.specs.Reading.{headed, FreshFields, ReadsFields, ReadsCurrentFields};
 
 // Whether length, version and length field are right.
-fn is_headed(image: &[u8]) -> bool
-    ensures { λ r. ⌜ r ≡ headed current (was image) ⌝ }
+fn is_headed(image: &[u8], form: Layout) -> bool
+    requires { ⌜ Lawful form ⌝ }
+    ensures { λ r. ⌜ r ≡ headed form (was image) ⌝ }
 {
-    if image.len() != IMAGE {
+    let size = image_size(form);
+    let version = form.version;
+    if image.len() != size {
         return false;
     }
-    if read_be(&image[0..LENGTH]) != VERSION {
+    if read_be(&image[0..LENGTH]) != version {
         return false;
     }
-    read_be(&image[LENGTH..TOTAL]) == REST
+    read_be(&image[LENGTH..TOTAL]) == (size - TOTAL) as u64
 }
 
 // The sound state whose image this is, if there is one, into fields that are those of the empty state.
 pub fn read_fields(
     image: &[u8],
+    form: Layout,
     total: &mut u64,
     first: &mut u16,
     heads: &mut [u16; LISTS],
@@ -48,14 +51,26 @@ pub fn read_fields(
     lprev: &mut [u16; POOL],
     lnext: &mut [u16; POOL],
 ) -> bool
+    requires { ⌜ Housed form ⌝ }
     requires { ⌜ FreshFields pool total first heads start end enabled previous next lprev lnext ⌝ }
-    ensures { λ r. ⌜ ReadsFields current image r total first heads start end enabled previous next lprev lnext ⌝ }
+    ensures { λ r. ⌜ ReadsFields pool form image r total first heads start end enabled previous next lprev lnext ⌝ }
 {
-    if is_headed(image) {
-        if read_records(image, start, end, enabled, previous, next, lprev, lnext) {
+    if is_headed(image, form) {
+        if read_records(
+            image,
+            form,
+            start,
+            end,
+            enabled,
+            previous,
+            next,
+            lprev,
+            lnext,
+        ) {
             *total = word_in(image, TOTAL);
-            *first = link_in(image, FIRST, 0);
-            read_links(image, HEADS, heads);
+            *first = link_in(image, form, FIRST, 0);
+            let at = FIRST + form.link;
+            read_links(image, form, at, heads);
             return is_sound_in(
                 *total,
                 RecordIndex(*first),
@@ -72,4 +87,38 @@ pub fn read_fields(
         return false;
     }
     false
+}
+
+// The same of the current version alone.
+pub fn read_current(
+    image: &[u8],
+    total: &mut u64,
+    first: &mut u16,
+    heads: &mut [u16; LISTS],
+    start: &mut [u64; POOL],
+    end: &mut [u64; POOL],
+    enabled: &mut [bool; POOL],
+    previous: &mut [u16; POOL],
+    next: &mut [u16; POOL],
+    lprev: &mut [u16; POOL],
+    lnext: &mut [u16; POOL],
+) -> bool
+    requires { ⌜ FreshFields pool total first heads start end enabled previous next lprev lnext ⌝ }
+    ensures { λ r. ⌜ ReadsCurrentFields current image r total first heads start end enabled previous next lprev lnext ⌝ }
+{
+    let form = current_layout();
+    read_fields(
+        image,
+        form,
+        total,
+        first,
+        heads,
+        start,
+        end,
+        enabled,
+        previous,
+        next,
+        lprev,
+        lnext,
+    )
 }

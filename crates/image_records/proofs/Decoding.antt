@@ -1,5 +1,5 @@
 -- The loop over the records: what holds when i of them are read. Assumes nothing.
-use mathlib.Core.Path.{_≡_, refl, sym, _∙_, ap}
+use mathlib.Core.Path.{_≡_, refl, sym, _∙_, ap, subst}
 use mathlib.Core.Bool.{Bool, true, false}
 use mathlib.Core.List.{List}
 use mathlib.Core.Logic.{⊎-elim}
@@ -12,138 +12,100 @@ use lib.Seq.{getD-set-same, getD-set-other}
 use borrow.Author.Tests.{eq-eqb, ne-eqb, eqb-true}
 use Rattle.linked_lists.specs.Links.{none, tab}
 use Rattle.linked_lists.proofs.Laws.{same?, length-tab, replicate-tab}
-use Rattle.pool_state.proofs.States.{by-tab, at-tab}
+use Rattle.pool_state.proofs.States.{at-tab}
 use Rattle.image_parts.specs.Layout.{Layout, word, noLink, recordsAt, endAt, enabledAt, linksAt, recordSize, recordAt}
-use Rattle.image_parts.specs.Read.{numberIn, linkOf, numbersIn, linksIn, flagsIn}
+use Rattle.image_parts.specs.Read.{numberIn, linkOf}
 use Rattle.image_parts.proofs.Loops.{both}
 use Rattle.image_parts.specs.declared.records.MemoryEntry.{MemoryEntry}
-use Rattle.image_records.specs.Records.{linkNumberIn, linkIn, entryIn, freshAt, flagAt, plainAt, plain, RecordsIn}
+use Rattle.image_records.specs.Records.{linkNumberIn, linkIn, entryIn, freshAt, flagAt, plainAt, plain, Filled, numberOf, flagOf, linkFieldOf, RecordsIn}
 
--- ---- one array: its first i values are those of g, and the others are d, as they were
+-- ---- one array
 
-pub record Part {A : Type 0} (d : A) (g : ℕ → A) (n i : ℕ) (xs : List A) : Type 0 where
-  pub sized : length xs ≡ n
-  pub done : (j : ℕ) → j < i → getD xs j d ≡ g j
-  pub rest : (j : ℕ) → i ≤ j → j < n → getD xs j d ≡ d
-
-module _ {A : Type 0} (d : A) (g : ℕ → A) (n : ℕ) where
-  part-start : (xs : List A) → xs ≡ replicate n d → Part d g n 0 xs
-  part-start xs e =
-      let t : xs ≡ tab n 0 (λ j. d) = e ∙ replicate-tab n 0 d in
+module _ {A : Type 0} (e d : A) (g : ℕ → A) (m : ℕ) where
+  part-start : (xs : List A) → xs ≡ replicate m d → Filled e d g m 0 xs
+  part-start xs h =
+      let t : xs ≡ tab m 0 (λ j. d) = h ∙ replicate-tab m 0 d in
       record {
-        sized = ap length t ∙ length-tab n 0 _;
+        sized = ap length t ∙ length-tab m 0 _;
         done = λ j b. absurd (omega arith);
-        rest = λ j a b. ap (λ (l : List A). getD l j d) t ∙ at-tab d n (λ k. d) j b;
+        rest = λ j a b. ap (λ (l : List A). getD l j e) t ∙ at-tab e m (λ k. d) j b;
       }
 
-  module _ (i : ℕ) (xs : List A) (b : i < n) (p : Part d g n i xs) where
+  module _ (i : ℕ) (xs : List A) (b : i < m) (p : Filled e d g m i xs) where
     -- a value that is d stands already
-    part-pass : g i ≡ d → Part d g n (i + 1) xs
-    part-pass e =
+    part-pass : g i ≡ d → Filled e d g m (i + 1) xs
+    part-pass h =
         record {
           sized = p .sized;
-          done = λ j h. ⊎-elim (λ (q : j ≡ i). rw q (p .rest i (omega arith) b ∙ sym e)) (λ q. p .done j (omega arith)) (same? j i);
-          rest = λ j a h. p .rest j (omega arith) h;
+          done = λ j k. ⊎-elim (λ (q : j ≡ i). rw q (p .rest i (omega arith) b ∙ sym h)) (λ q. p .done j (omega arith)) (same? j i);
+          rest = λ j a k. p .rest j (omega arith) k;
         }
 
-    part-put : (v : A) → v ≡ g i → Part d g n (i + 1) (set xs i v)
-    part-put v e =
+    part-put : (v : A) → v ≡ g i → Filled e d g m (i + 1) (set xs i v)
+    part-put v h =
         let len = p .sized in
         record {
           sized = length-set xs i v ∙ len;
-          done = λ j h. ⊎-elim (λ (q : j ≡ i). rw q (getD-set-same xs i v d (omega arith) ∙ e)) (λ q. getD-set-other xs i j v d q ∙ p .done j (omega arith)) (same? j i);
-          rest = λ j a h. getD-set-other xs i j v d (λ q. omega arith) ∙ p .rest j (omega arith) h;
+          done = λ j k. ⊎-elim (λ (q : j ≡ i). rw q (getD-set-same xs i v e (omega arith) ∙ h)) (λ q. getD-set-other xs i j v e q ∙ p .done j (omega arith)) (same? j i);
+          rest = λ j a k. getD-set-other xs i j v e (λ q. omega arith) ∙ p .rest j (omega arith) k;
         }
 
-  part-end : (i : ℕ) (xs : List A) → n ≤ i → Part d g n i xs → xs ≡ tab n 0 g
-  part-end i xs b p = by-tab d n xs g (p .sized) (λ j h. p .done j (omega arith))
-
--- ---- the seven arrays of the records
+-- ---- the seven arrays of m records
 
 module _ (f : Layout) (l : List ℕ) where
-  abbrev numberOf : ℕ → ℕ → ℕ
-  numberOf o j = numberIn l (recordsAt f + o + recordSize f * j) word
-
-  abbrev flagOf : ℕ → Bool
-  flagOf j = eqb (getD l (recordsAt f + enabledAt + recordSize f * j) 0) 1
-
-  abbrev linkFieldOf : ℕ → ℕ → ℕ
-  linkFieldOf k j = linkOf f (numberIn l (recordsAt f + (linksAt + f .link * k) + recordSize f * j) (f .link))
-
   -- the fields of record i, counted from its first byte
   module _ (i : ℕ) where
     abbrev here : ℕ
     here = recordAt f i
 
-    pub number-here : (o : ℕ) → numberIn l (here + o) word ≡ numberOf o i
+    pub number-here : (o : ℕ) → numberIn l (here + o) word ≡ numberOf f l o i
     number-here o = let e : here + o ≡ recordsAt f + o + recordSize f * i = omega arith in ap (λ (m : ℕ). numberIn l m word) e
 
-    pub start-here : numberIn l here word ≡ numberOf 0 i
+    pub start-here : numberIn l here word ≡ numberOf f l 0 i
     start-here = let e : here ≡ recordsAt f + 0 + recordSize f * i = omega arith in ap (λ (m : ℕ). numberIn l m word) e
 
     pub flag-here : flagAt l here ≡ getD l (recordsAt f + enabledAt + recordSize f * i) 0
     flag-here = let e : here + enabledAt ≡ recordsAt f + enabledAt + recordSize f * i = omega arith in ap (λ (m : ℕ). getD l m 0) e
 
-    pub link-here : (k : ℕ) → linkIn f l (here + linksAt) k ≡ linkFieldOf k i
+    pub link-here : (k : ℕ) → linkIn f l (here + linksAt) k ≡ linkFieldOf f l k i
     link-here k = let e : here + linksAt + f .link * k ≡ recordsAt f + (linksAt + f .link * k) + recordSize f * i = omega arith in ap (λ (m : ℕ). linkOf f (numberIn l m (f .link))) e
 
-  pub record Decoding (i : ℕ) (start end : List ℕ) (enabled : List Bool) (previous next lprev lnext : List ℕ) : Type 0 where
-    pub within : i ≤ f .records
-    pub starts : Part 0 (numberOf 0) (f .records) i start
-    pub ends : Part 0 (numberOf endAt) (f .records) i end
-    pub flags : Part false flagOf (f .records) i enabled
-    pub previouses : Part none (linkFieldOf 0) (f .records) i previous
-    pub nexts : Part none (linkFieldOf 1) (f .records) i next
-    pub lprevs : Part none (linkFieldOf 2) (f .records) i lprev
-    pub lnexts : Part none (linkFieldOf 3) (f .records) i lnext
-
-  module _ (start end : List ℕ) (enabled : List Bool) (previous next lprev lnext : List ℕ) where
-    pub decode-start : start ≡ replicate (f .records) 0 → end ≡ replicate (f .records) 0 → enabled ≡ replicate (f .records) false → previous ≡ replicate (f .records) none
-        → next ≡ replicate (f .records) none → lprev ≡ replicate (f .records) none → lnext ≡ replicate (f .records) none → Decoding 0 start end enabled previous next lprev lnext
+  module _ (m : ℕ) (start end : List ℕ) (enabled : List Bool) (previous next lprev lnext : List ℕ) where
+    pub decode-start : start ≡ replicate m 0 → end ≡ replicate m 0 → enabled ≡ replicate m false → previous ≡ replicate m none
+        → next ≡ replicate m none → lprev ≡ replicate m none → lnext ≡ replicate m none → RecordsIn m 0 f l start end enabled previous next lprev lnext
     decode-start e₁ e₂ e₃ e₄ e₅ e₆ e₇ = record {
-      within = omega arith;
-      starts = part-start _ _ _ start e₁;
-      ends = part-start _ _ _ end e₂;
-      flags = part-start _ _ _ enabled e₃;
-      previouses = part-start _ _ _ previous e₄;
-      nexts = part-start _ _ _ next e₅;
-      lprevs = part-start _ _ _ lprev e₆;
-      lnexts = part-start _ _ _ lnext e₇;
+      starts = part-start _ _ _ _ start e₁;
+      ends = part-start _ _ _ _ end e₂;
+      flags = part-start _ _ _ _ enabled e₃;
+      previouses = part-start _ _ _ _ previous e₄;
+      nexts = part-start _ _ _ _ next e₅;
+      lprevs = part-start _ _ _ _ lprev e₆;
+      lnexts = part-start _ _ _ _ lnext e₇;
     }
 
-    pub decode-end : (i : ℕ) → f .records ≤ i → Decoding i start end enabled previous next lprev lnext → RecordsIn f l start end enabled previous next lprev lnext
-    unfolding numbersIn linksIn flagsIn
-    decode-end i b g = record {
-      starts = part-end _ _ _ i start b (g .starts);
-      ends = part-end _ _ _ i end b (g .ends);
-      flags = part-end _ _ _ i enabled b (g .flags);
-      previouses = part-end _ _ _ i previous b (g .previouses);
-      nexts = part-end _ _ _ i next b (g .nexts);
-      lprevs = part-end _ _ _ i lprev b (g .lprevs);
-      lnexts = part-end _ _ _ i lnext b (g .lnexts);
-    }
+    pub decode-end : (i n : ℕ) → i ≡ n → RecordsIn m i f l start end enabled previous next lprev lnext → RecordsIn m n f l start end enabled previous next lprev lnext
+    decode-end i n e g = subst (λ (k : ℕ). RecordsIn m k f l start end enabled previous next lprev lnext) e g
 
-    module _ (i : ℕ) (b : i < f .records) (g : Decoding i start end enabled previous next lprev lnext) where
-      no-link : (k : ℕ) → linkNumberIn f l (recordAt f i + linksAt) k ≡ noLink f → linkFieldOf k i ≡ none
+    module _ (i : ℕ) (b : i < m) (g : RecordsIn m i f l start end enabled previous next lprev lnext) where
+      no-link : (k : ℕ) → linkNumberIn f l (recordAt f i + linksAt) k ≡ noLink f → linkFieldOf f l k i ≡ none
       no-link k e = sym (link-here i k) ∙ rw (e, eq-eqb (noLink f) (noLink f) refl)
 
       pub decode-put : (e : MemoryEntry) → flagAt l (recordAt f i) ≡ 1 → e ≡ entryIn f l (recordAt f i)
-          → Decoding (i + 1) (set start i (e .start .0)) (set end i (e .end .0)) (set enabled i true) (set previous i (e .previous .0)) (set next i (e .next .0))
+          → RecordsIn m (i + 1) f l (set start i (e .start .0)) (set end i (e .end .0)) (set enabled i true) (set previous i (e .previous .0)) (set next i (e .next .0))
           (set lprev i (e .«list_prev» .0)) (set lnext i (e .«list_next» .0))
       decode-put e on is =
-          let marked : true ≡ flagOf i = sym (eq-eqb _ 1 (sym (flag-here i) ∙ on)) in
+          let marked : true ≡ flagOf f l i = sym (eq-eqb _ 1 (sym (flag-here i) ∙ on)) in
           record {
-            within = omega arith;
-            starts = part-put _ _ _ i start b (g .starts) _ (ap (λ (x : MemoryEntry). x .start .0) is ∙ start-here i);
-            ends = part-put _ _ _ i end b (g .ends) _ (ap (λ (x : MemoryEntry). x .end .0) is ∙ number-here i endAt);
-            flags = part-put _ _ _ i enabled b (g .flags) _ marked;
-            previouses = part-put _ _ _ i previous b (g .previouses) _ (ap (λ (x : MemoryEntry). x .previous .0) is ∙ link-here i 0);
-            nexts = part-put _ _ _ i next b (g .nexts) _ (ap (λ (x : MemoryEntry). x .next .0) is ∙ link-here i 1);
-            lprevs = part-put _ _ _ i lprev b (g .lprevs) _ (ap (λ (x : MemoryEntry). x .«list_prev» .0) is ∙ link-here i 2);
-            lnexts = part-put _ _ _ i lnext b (g .lnexts) _ (ap (λ (x : MemoryEntry). x .«list_next» .0) is ∙ link-here i 3);
+            starts = part-put _ _ _ _ i start b (g .starts) _ (ap (λ (x : MemoryEntry). x .start .0) is ∙ start-here i);
+            ends = part-put _ _ _ _ i end b (g .ends) _ (ap (λ (x : MemoryEntry). x .end .0) is ∙ number-here i endAt);
+            flags = part-put _ _ _ _ i enabled b (g .flags) _ marked;
+            previouses = part-put _ _ _ _ i previous b (g .previouses) _ (ap (λ (x : MemoryEntry). x .previous .0) is ∙ link-here i 0);
+            nexts = part-put _ _ _ _ i next b (g .nexts) _ (ap (λ (x : MemoryEntry). x .next .0) is ∙ link-here i 1);
+            lprevs = part-put _ _ _ _ i lprev b (g .lprevs) _ (ap (λ (x : MemoryEntry). x .«list_prev» .0) is ∙ link-here i 2);
+            lnexts = part-put _ _ _ _ i lnext b (g .lnexts) _ (ap (λ (x : MemoryEntry). x .«list_next» .0) is ∙ link-here i 3);
           }
 
-      pub decode-pass : flagAt l (recordAt f i) ≡ 0 → freshAt f l (recordAt f i) ≡ true → Decoding (i + 1) start end enabled previous next lprev lnext
+      pub decode-pass : flagAt l (recordAt f i) ≡ 0 → freshAt f l (recordAt f i) ≡ true → RecordsIn m (i + 1) f l start end enabled previous next lprev lnext
       decode-pass off fresh =
           let p = both (eqb (numberIn l (recordAt f i) word) 0) _ fresh in
           let q = both (eqb (numberIn l (recordAt f i + endAt) word) 0) _ (p .1) in
@@ -151,16 +113,15 @@ module _ (f : Layout) (l : List ℕ) where
           let s = both (eqb (linkNumberIn f l (recordAt f i + linksAt) 1) (noLink f)) _ (r .1) in
           let t = both (eqb (linkNumberIn f l (recordAt f i + linksAt) 2) (noLink f)) _ (s .1) in
           let zero : getD l (recordsAt f + enabledAt + recordSize f * i) 0 ≡ 0 = sym (flag-here i) ∙ off in
-          let unmarked : flagOf i ≡ false = ap (λ (x : ℕ). eqb x 1) zero in
+          let unmarked : flagOf f l i ≡ false = ap (λ (x : ℕ). eqb x 1) zero in
           record {
-            within = omega arith;
-            starts = part-pass _ _ _ i start b (g .starts) (sym (start-here i) ∙ eqb-true _ _ (p .0));
-            ends = part-pass _ _ _ i end b (g .ends) (sym (number-here i endAt) ∙ eqb-true _ _ (q .0));
-            flags = part-pass _ _ _ i enabled b (g .flags) unmarked;
-            previouses = part-pass _ _ _ i previous b (g .previouses) (no-link 0 (eqb-true _ _ (r .0)));
-            nexts = part-pass _ _ _ i next b (g .nexts) (no-link 1 (eqb-true _ _ (s .0)));
-            lprevs = part-pass _ _ _ i lprev b (g .lprevs) (no-link 2 (eqb-true _ _ (t .0)));
-            lnexts = part-pass _ _ _ i lnext b (g .lnexts) (no-link 3 (eqb-true _ _ (t .1)));
+            starts = part-pass _ _ _ _ i start b (g .starts) (sym (start-here i) ∙ eqb-true _ _ (p .0));
+            ends = part-pass _ _ _ _ i end b (g .ends) (sym (number-here i endAt) ∙ eqb-true _ _ (q .0));
+            flags = part-pass _ _ _ _ i enabled b (g .flags) unmarked;
+            previouses = part-pass _ _ _ _ i previous b (g .previouses) (no-link 0 (eqb-true _ _ (r .0)));
+            nexts = part-pass _ _ _ _ i next b (g .nexts) (no-link 1 (eqb-true _ _ (s .0)));
+            lprevs = part-pass _ _ _ _ i lprev b (g .lprevs) (no-link 2 (eqb-true _ _ (t .0)));
+            lnexts = part-pass _ _ _ _ i lnext b (g .lnexts) (no-link 3 (eqb-true _ _ (t .1)));
           }
 
   -- ---- whether each of them is in use or fresh

@@ -1,3 +1,4 @@
 -- Laws of the records in an image.
+pub mod Rooms
 pub mod Tests
 pub mod Decoding

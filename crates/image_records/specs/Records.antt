@@ -1,15 +1,15 @@
 -- The records in a list of bytes, one by one: decoded where they are in use, compared with the fresh one where they are not. Assumes nothing.
-use Prim.Native.Nat.{ℕ, zero, suc, _+_, _*_}
+use Prim.Native.Nat.{ℕ, zero, suc, _+_, _*_, _<_, _≤_}
 use mathlib.Core.Bool.{Bool, true, false, cond, _&&_}
 use mathlib.Core.List.{List}
 use mathlib.Core.Path.{_≡_}
 use denote.Ref.{RefT, now}
 use lib.Dec.{eqb}
-use lib.ListN.{getD, replicate}
+use lib.ListN.{length, getD, replicate}
 use Rattle.linked_lists.specs.Links.{none}
 use Rattle.pool_state.specs.Lent.{Lent, was, is}
 use Rattle.image_parts.specs.Layout.{Layout, word, noLink, recordsAt, endAt, enabledAt, linksAt, recordSize, recordAt}
-use Rattle.image_parts.specs.Read.{numberIn, linkOf, numbersIn, linksIn, flagsIn}
+use Rattle.image_parts.specs.Read.{numberIn, linkOf}
 use Rattle.image_parts.specs.declared.records.MemoryEntry.{MemoryEntry}
 
 -- the number of the k-th of the links from a on
@@ -54,15 +54,31 @@ unfoldable pub plain : Layout → List ℕ → ℕ → ℕ → Bool
 plain f l zero i = true
 plain f l (suc n) i = plainAt f l (recordAt f i) && plain f l n (suc i)
 
--- the arrays are those of the state in the bytes
-pub record RecordsIn (f : Layout) (l : List ℕ) (start end : List ℕ) (enabled : List Bool) (previous next lprev lnext : List ℕ) : Type 0 where
-  pub starts : start ≡ numbersIn l (recordsAt f + 0) (recordSize f) (f .records)
-  pub ends : end ≡ numbersIn l (recordsAt f + endAt) (recordSize f) (f .records)
-  pub flags : enabled ≡ flagsIn l (recordsAt f + enabledAt) (recordSize f) (f .records)
-  pub previouses : previous ≡ linksIn f l (recordsAt f + (linksAt + f .link * 0)) (recordSize f) (f .records)
-  pub nexts : next ≡ linksIn f l (recordsAt f + (linksAt + f .link * 1)) (recordSize f) (f .records)
-  pub lprevs : lprev ≡ linksIn f l (recordsAt f + (linksAt + f .link * 2)) (recordSize f) (f .records)
-  pub lnexts : lnext ≡ linksIn f l (recordsAt f + (linksAt + f .link * 3)) (recordSize f) (f .records)
+-- of m places, the first n hold what g says, and the others d; the default of a read is e
+pub record Filled {A : Type 0} (e d : A) (g : ℕ → A) (m n : ℕ) (xs : List A) : Type 0 where
+  pub sized : length xs ≡ m
+  pub done : (j : ℕ) → j < n → getD xs j e ≡ g j
+  pub rest : (j : ℕ) → n ≤ j → j < m → getD xs j e ≡ d
+
+-- field o of record j in the bytes: a number; the flag; and the k-th link
+abbrev pub numberOf : Layout → List ℕ → ℕ → ℕ → ℕ
+numberOf f l o j = numberIn l (recordsAt f + o + recordSize f * j) word
+
+abbrev pub flagOf : Layout → List ℕ → ℕ → Bool
+flagOf f l j = eqb (getD l (recordsAt f + enabledAt + recordSize f * j) 0) 1
+
+abbrev pub linkFieldOf : Layout → List ℕ → ℕ → ℕ → ℕ
+linkFieldOf f l k j = linkOf f (numberIn l (recordsAt f + (linksAt + f .link * k) + recordSize f * j) (f .link))
+
+-- the first n of m records are those in the bytes, and the others are fresh
+pub record RecordsIn (m n : ℕ) (f : Layout) (l : List ℕ) (start end : List ℕ) (enabled : List Bool) (previous next lprev lnext : List ℕ) : Type 0 where
+  pub starts : Filled 0 0 (numberOf f l 0) m n start
+  pub ends : Filled 0 0 (numberOf f l endAt) m n end
+  pub flags : Filled false false (flagOf f l) m n enabled
+  pub previouses : Filled 0 none (linkFieldOf f l 0) m n previous
+  pub nexts : Filled 0 none (linkFieldOf f l 1) m n next
+  pub lprevs : Filled 0 none (linkFieldOf f l 2) m n lprev
+  pub lnexts : Filled 0 none (linkFieldOf f l 3) m n lnext
 
 -- ---- the seven lent arrays of the records
 
@@ -76,7 +92,7 @@ pub record FreshRecords (n : ℕ) (start end : RefT (List ℕ)) (enabled : RefT 
   pub lprevs : now lprev ≡ replicate n none
   pub lnexts : now lnext ≡ replicate n none
 
--- r tells whether every record is in use or fresh; where they are, the arrays become those in the bytes
-pub record ReadsRecords (f : Layout) (image : Lent (List ℕ)) (r : Bool) (start end : Lent (List ℕ)) (enabled : Lent (List Bool)) (previous next lprev lnext : Lent (List ℕ)) : Type 0 where
+-- r tells whether every record of the layout is in use or fresh; where they are, the arrays of m become those in the bytes, filled up
+pub record ReadsRecords (m : ℕ) (f : Layout) (image : Lent (List ℕ)) (r : Bool) (start end : Lent (List ℕ)) (enabled : Lent (List Bool)) (previous next lprev lnext : Lent (List ℕ)) : Type 0 where
   pub told : r ≡ plain f (was image) (f .records) 0
-  pub read : r ≡ true → RecordsIn f (was image) (is start) (is end) (is enabled) (is previous) (is next) (is lprev) (is lnext)
+  pub read : r ≡ true → RecordsIn m (f .records) f (was image) (is start) (is end) (is enabled) (is previous) (is next) (is lprev) (is lnext)

@@ -1,13 +1,14 @@
-// The records of an image: one in use is decoded, an unused one compared with the fresh one.
+// The records of an image, over any layout: one in use is decoded, an unused one compared with the fresh one.
 use crate::numbers::link_in;
 use crate::numbers::link_number_in;
 use crate::numbers::word_in;
 use image_parts::layout::ENABLED;
 use image_parts::layout::END;
 use image_parts::layout::LINKS;
-use image_parts::layout::NO_LINK;
-use image_parts::layout::RECORD;
-use image_parts::layout::RECORDS;
+use image_parts::layout::Layout;
+use image_parts::layout::no_link;
+use image_parts::layout::record_size;
+use image_parts::layout::records_at;
 use image_parts::records::MemoryEntry;
 use pool_state::Address;
 use pool_state::POOL;
@@ -15,27 +16,34 @@ use pool_state::RecordIndex;
 ghost use mathlib.Core.Path.{_≡_};
 ghost use Prim.Native.Nat.{_+_, _*_, _≤_};
 ghost use lib.ListN.{length};
-ghost use Rattle.image_parts.specs.Layout.{current, imageSize, recordSize};
+ghost use Rattle.image_parts.specs.Layout.{Lawful, Housed, imageSize, recordSize};
 ghost use Rattle.pool_state.specs.Lent.{was};
 ghost use Rattle.pool_state.specs.Shown.{pool};
 ghost use Rattle.image_records.specs.Records.{entryIn, unlinkedAt, freshAt, FreshRecords, ReadsRecords};
 
-// No number of a link is above that of none, so four add up to so much only where each is none.
-fn is_unlinked(image: &[u8], at: usize) -> bool
-    requires { ⌜ at + current .link * 4 ≤ length (now image) ⌝ }
-    ensures { λ r. ⌜ r ≡ unlinkedAt current (was image) at ⌝ }
+// Four links of two bytes are the eight bytes of one number. Of others: no number of a link is above that of none, so four add up to so much
+// only where each is none.
+fn is_unlinked(image: &[u8], form: Layout, at: usize) -> bool
+    requires { ⌜ Lawful form ⌝ }
+    requires { ⌜ at + form .link * 4 ≤ length (now image) ⌝ }
+    ensures { λ r. ⌜ r ≡ unlinkedAt form (was image) at ⌝ }
 {
-    let previous = link_number_in(image, at, 0);
-    let next = link_number_in(image, at, 1);
-    let lprev = link_number_in(image, at, 2);
-    let lnext = link_number_in(image, at, 3);
-    previous + next + lprev + lnext == NO_LINK as u64 * 4
+    let width = form.link;
+    if width == 2 {
+        return word_in(image, at) == 18446744073709551615;
+    }
+    let previous = link_number_in(image, form, at, 0);
+    let next = link_number_in(image, form, at, 1);
+    let lprev = link_number_in(image, form, at, 2);
+    let lnext = link_number_in(image, form, at, 3);
+    previous + next + lprev + lnext == no_link(form) * 4
 }
 
 // Whether the unused record from `at` on is the fresh one.
-fn is_fresh(image: &[u8], at: usize) -> bool
-    requires { ⌜ at + recordSize current ≤ length (now image) ⌝ }
-    ensures { λ r. ⌜ r ≡ freshAt current (was image) at ⌝ }
+fn is_fresh(image: &[u8], form: Layout, at: usize) -> bool
+    requires { ⌜ Lawful form ⌝ }
+    requires { ⌜ at + recordSize form ≤ length (now image) ⌝ }
+    ensures { λ r. ⌜ r ≡ freshAt form (was image) at ⌝ }
 {
     if word_in(image, at) != 0 {
         return false;
@@ -43,28 +51,30 @@ fn is_fresh(image: &[u8], at: usize) -> bool
     if word_in(image, at + END) != 0 {
         return false;
     }
-    is_unlinked(image, at + LINKS)
+    is_unlinked(image, form, at + LINKS)
 }
 
 // The record in use from `at` on.
-fn record_in(image: &[u8], at: usize) -> MemoryEntry
-    requires { ⌜ at + recordSize current ≤ length (now image) ⌝ }
-    ensures { λ r. ⌜ r ≡ entryIn current (was image) at ⌝ }
+fn record_in(image: &[u8], form: Layout, at: usize) -> MemoryEntry
+    requires { ⌜ Lawful form ⌝ }
+    requires { ⌜ at + recordSize form ≤ length (now image) ⌝ }
+    ensures { λ r. ⌜ r ≡ entryIn form (was image) at ⌝ }
 {
     MemoryEntry {
         start: Address(word_in(image, at)),
         end: Address(word_in(image, at + END)),
         enabled: true,
-        previous: RecordIndex(link_in(image, at + LINKS, 0)),
-        next: RecordIndex(link_in(image, at + LINKS, 1)),
-        list_prev: RecordIndex(link_in(image, at + LINKS, 2)),
-        list_next: RecordIndex(link_in(image, at + LINKS, 3)),
+        previous: RecordIndex(link_in(image, form, at + LINKS, 0)),
+        next: RecordIndex(link_in(image, form, at + LINKS, 1)),
+        list_prev: RecordIndex(link_in(image, form, at + LINKS, 2)),
+        list_next: RecordIndex(link_in(image, form, at + LINKS, 3)),
     }
 }
 
-// The records, into arrays that are fresh: an unused one is left as it is.
+// The records, into arrays that are fresh: an unused one is left as it is, and so are the places past those that the layout has.
 pub fn read_records(
     image: &[u8],
+    form: Layout,
     start: &mut [u64; POOL],
     end: &mut [u64; POOL],
     enabled: &mut [bool; POOL],
@@ -73,15 +83,19 @@ pub fn read_records(
     lprev: &mut [u16; POOL],
     lnext: &mut [u16; POOL],
 ) -> bool
-    requires { ⌜ length (now image) ≡ imageSize current ⌝ }
+    requires { ⌜ Housed form ⌝ }
+    requires { ⌜ length (now image) ≡ imageSize form ⌝ }
     requires { ⌜ FreshRecords pool start end enabled previous next lprev lnext ⌝ }
-    ensures { λ r. ⌜ ReadsRecords current image r start end enabled previous next lprev lnext ⌝ }
+    ensures { λ r. ⌜ ReadsRecords pool form image r start end enabled previous next lprev lnext ⌝ }
 {
-    for i in 0..POOL {
-        let at = RECORDS + RECORD * i;
+    let from = records_at(form);
+    let size = record_size(form);
+    let count = form.records;
+    for i in 0..count {
+        let at = from + size * i;
         let flag = image[at + ENABLED];
         if flag == 0 {
-            if is_fresh(image, at) {
+            if is_fresh(image, form, at) {
                 continue;
             }
             return false;
@@ -89,7 +103,7 @@ pub fn read_records(
         if flag != 1 {
             return false;
         }
-        let e = record_in(image, at);
+        let e = record_in(image, form, at);
         start[i] = e.start.0;
         end[i] = e.end.0;
         enabled[i] = true;

@@ -27,9 +27,9 @@ entryOf start end enabled previous next lprev lnext i = record {
 abbrev pub entryAt : MemoryAllocator → ℕ → MemoryEntry
 entryAt s = entryOf (s .start) (s .end) (s .enabled) (s .previous) (s .next) (s .«list_prev») (s .«list_next»)
 
--- the image of a state
+-- the image of a state; no state has a low figure
 unfoldable pub imageOf : Layout → MemoryAllocator → List ℕ
-imageOf f s = headBytes f (s .«free_size») (s .«first_entry» .0) (s .«free_list») ++ joined (f .records) 0 (λ i. recordBytes f (entryAt s i))
+imageOf f s = headBytes f (s .«free_size») (s .«first_entry» .0) (s .«free_list») 0 ++ joined (f .records) 0 (λ i. recordBytes f (entryAt s i))
 
 -- ---- what the inner functions cite
 

@@ -96,5 +96,5 @@ pub fn write_fields(
         lprev,
         lnext,
     );
-    write_head(&mut image[0..RECORDS], total, first, heads);
+    write_head(&mut image[0..RECORDS], total, first, heads, 0);
 }

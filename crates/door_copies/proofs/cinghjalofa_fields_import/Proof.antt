@@ -11,8 +11,8 @@ is-image-requires c κs = search needs
 clear-requires : tie.Need-clear-requires
 clear-requires c κs = search needs
 
-read-fields-requires : tie.Need-read-fields-requires
-read-fields-requires c κs =
+read-current-requires : tie.Need-read-current-requires
+read-current-requires c κs =
     let cleared = c .before .before .before .before .before .before .before .before .before .before in
     cleared .clear .ensures
 
@@ -21,7 +21,7 @@ returns c =
     let cleared = c .before .before .before .before .before .before .before .before .before .before .before in
     let here = cleared .before .before .before .before .before .before .before .before .before .before .before in
     let on = sym (here .before .is-image .ensures) ∙ here .if1 .taken in
-    let read = c .read-fields .ensures in
+    let read = c .read-current .ensures in
     import-done current _ _ on _ (read .state (read .told ∙ on))
 
 returns-2 : tie.Need-returns-2
@@ -33,6 +33,6 @@ cinghjalofa-fields-import-spec =
     (tie.spec
     is-image-requires
     clear-requires
-    read-fields-requires
+    read-current-requires
     returns
     returns-2)

@@ -3,15 +3,15 @@ use Rattle.pool_state.proofs.States.{fresh-state}
 use Rattle.door_copies.proofs.is_image.Statement.{statement}
 use Rattle.door_copies.proofs.is_image.Tie as tie
 
-read-fields-requires : tie.Need-read-fields-requires
-read-fields-requires c κs = fresh-state pool
+read-current-requires : tie.Need-read-current-requires
+read-current-requires c κs = fresh-state pool
 
 returns : tie.Need-returns
-returns c = c .read-fields .ensures .told
+returns c = c .read-current .ensures .told
 
 pub is-image-spec : {M : Type 1} → statement M
 is-image-spec =
     tie.close
     (tie.spec
-    read-fields-requires
+    read-current-requires
     returns)

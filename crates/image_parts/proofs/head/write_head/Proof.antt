@@ -1,11 +1,12 @@
-use Prim.Native.Nat.{_*_}
+use Prim.Native.Nat.{ℕ, _*_}
 use Rattle.rules.specs.Rules.{sizeLists}
-use Rattle.image_parts.specs.Layout.{current, word, lengthAt, lengthSize, totalAt, firstAt, headsAt}
-use mathlib.Core.Path.{refl, _∙_}
+use Rattle.image_parts.specs.Layout.{current, word, lengthAt, lengthSize, totalAt, firstAt, headsAt, lowAt, recordsAt}
+use mathlib.Core.Path.{_≡_, refl, ap, _∙_}
 use mathlib.Core.List.{[], append-assoc}
 use native.Mathlib.Omega.{arith}
+use lib.ListN.{length}
 use Rattle.image_parts.specs.Written.{headBytes}
-use Rattle.image_parts.proofs.Parts.{begin, put-number, put-last}
+use Rattle.image_parts.proofs.Parts.{length-links, begin, put-part, put-number, put-all}
 use borrow.Author.Needs.{needs}
 use Rattle.image_parts.proofs.head.write_head.Statement.{statement}
 use Rattle.image_parts.proofs.head.write_head.Tie as tie
@@ -73,22 +74,39 @@ part-write-links-end c = omega arith
 write-links-requires : tie.Need-write-links-requires
 write-links-requires c κs = search needs
 
+sub-put-be-4 : tie.Need-sub-put-be-4
+sub-put-be-4 c = omega arith
+
+part-put-be-start-4 : tie.Need-part-put-be-start-4
+part-put-be-start-4 c = omega arith
+
+part-put-be-end-4 : tie.Need-part-put-be-end-4
+part-put-be-end-4 c = omega arith
+
+put-be-requires-4 : tie.Need-put-be-requires-4
+put-be-requires-4 c κs = tt
+
 same-length : tie.Need-same-length
 same-length c = search needs
 
 returns : tie.Need-returns
 unfolding headBytes
 returns c =
-    let c₄ = c .before .before .before .before .before .before .before in
+    let c₅ = c .before .before .before .before .before .before in
+    let c₄ = c₅ .before .before .before .before .before in
     let c₃ = c₄ .before .before .before .before .before in
     let c₂ = c₃ .before .before .before .before in
     let c₁ = c₂ .before .before .before .before in
-    let xs = c₁ .before .before .before .args .part .now in
+    let start = c₁ .before .before .before in
+    let xs = start .args .part .now in
+    let count : length (start .args .heads .now) ≡ sizeLists = search needs in
     let s₁ = put-number xs [] _ _ 0 lengthAt _ _ (omega arith) (begin xs) (c₁ .put-be .ensures) refl in
     let s₂ = put-number xs _ _ _ lengthAt lengthSize _ _ (omega arith) s₁ (c₂ .put-be2 .ensures) refl in
     let s₃ = put-number xs _ _ _ totalAt word _ _ (omega arith) s₂ (c₃ .put-word .ensures) refl in
     let s₄ = put-number xs _ _ _ firstAt (current .link) _ _ (omega arith) s₃ (c₄ .put-be3 .ensures) (c₄ .before .link-number .ensures) in
-    put-last xs _ _ _ _ (headsAt current) (current .link * sizeLists) (omega arith) s₄ (c .before .before .write-links .ensures) ∙ simp append-assoc
+    let s₅ = put-part xs _ _ _ _ (headsAt current) (current .link * sizeLists) (omega arith) s₄ (c₅ .write-links .ensures) (length-links current _ ∙ ap (λ (n : ℕ). current .link * n) count) in
+    let s₆ = put-number xs _ _ _ (lowAt current) (current .low) _ _ (omega arith) s₅ (c .before .before .put-be4 .ensures) refl in
+    put-all xs _ _ (recordsAt current) (omega arith) s₆ ∙ simp append-assoc
 
 pub write-head-spec : {M : Type 1} → statement M
 write-head-spec =
@@ -115,5 +133,9 @@ write-head-spec =
     part-write-links-start
     part-write-links-end
     write-links-requires
+    sub-put-be-4
+    part-put-be-start-4
+    part-put-be-end-4
+    put-be-requires-4
     same-length
     returns)

@@ -2,7 +2,6 @@ use Prim.Native.Nat.{_-_}
 use mathlib.Core.Path.{_≡_, refl}
 use native.Mathlib.Omega.{arith}
 use lib.ListN.{length}
-use Rattle.image_parts.specs.Layout.{current}
 use Rattle.image_parts.specs.Read.{linksIn}
 use Rattle.image_parts.proofs.Loops.{Filling, fill-start, fill-next, fill-end}
 use Rattle.image_records.specs.Records.{linkIn}
@@ -10,16 +9,18 @@ use Rattle.image_records.proofs.numbers.read_links.Statement.{statement
 use Rattle.image_records.proofs.numbers.read_links.Tie as tie
 
 abbrev Inv-loop : tie.InvT-loop
-Inv-loop image at links₀ k₀ k-end links k = (k-end ≡ length links₀) × Filling (linkIn current image at) (length links₀) k links
+Inv-loop image form at links₀ k₀ k-end links k = (k-end ≡ length links₀) × Filling (linkIn form image at) (length links₀) k links
 
 abbrev μ-loop : tie.MeasureT-loop
-μ-loop image at links₀ k₀ k-end links k = k-end - k
+μ-loop image form at links₀ k₀ k-end links k = k-end - k
 
 loop-holds : tie.Need-loop-holds Inv-loop μ-loop
 loop-holds c = (refl, fill-start _ _ _ refl)
 
 link-in-requires : tie.Need-link-in-requires Inv-loop μ-loop
-link-in-requires c κs = c .before .before .before .before .pre (c .before .loop .k) (omega arith)
+link-in-requires c κs =
+    let start = c .before .before .before .before in
+    (start .pre .0, start .pre .1 (c .before .loop .k) (omega arith))
 
 mul-links : tie.Need-mul-links Inv-loop μ-loop
 mul-links c = omega arith

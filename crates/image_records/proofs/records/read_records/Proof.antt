@@ -1,42 +1,59 @@
-use Prim.Native.Nat.{_-_}
+use Prim.Native.Nat.{ℕ, _-_, _≤_}
 use mathlib.Core.Bool.{true, false}
-use mathlib.Core.Path.{_≡_, refl, sym, _∙_}
+use mathlib.Core.Path.{_≡_, sym, _∙_, ap}
+use native.Mathlib.Nat.{sub-zero}
 use native.Mathlib.Omega.{arith}
 use Rattle.linked_lists.proofs.Laws.{true≢false}
 use Rattle.pool_state.specs.Shown.{pool}
-use Rattle.image_parts.specs.Layout.{current, recordAt}
-use Rattle.image_records.specs.Records.{plain}
-use Rattle.image_records.proofs.Decoding.{Decoding, decode-start, decode-end, decode-put, decode-pass, plain-unused, plain-used, plain-neither, plain-next, plain-stop, plain-end}
+use Rattle.image_parts.specs.Layout.{recordAt}
+use Rattle.image_records.specs.Records.{entryIn, freshAt, flagAt, plain, RecordsIn}
+use Rattle.image_records.proofs.Rooms.{Place, place}
+use Rattle.image_records.proofs.Decoding.{decode-start, decode-put, decode-pass, decode-end, plain-unused, plain-used, plain-neither, plain-next, plain-stop, plain-end}
 use Rattle.image_records.proofs.records.read_records.Statement.{statement}
 use Rattle.image_records.proofs.records.read_records.Tie as tie
 
 abbrev Inv-loop : tie.InvT-loop
-Inv-loop image start₀ end₀ enabled₀ previous₀ next₀ lprev₀ lnext₀ i₀ start end enabled previous next lprev lnext i =
-    (plain current image (pool - i) i ≡ plain current image pool 0) × Decoding current image i start end enabled previous next lprev lnext
+Inv-loop image form start₀ end₀ enabled₀ previous₀ next₀ lprev₀ lnext₀ from size i₀ count start end enabled previous next lprev lnext i =
+    (plain form image (form .records - i) i ≡ plain form image (form .records) 0) × (i ≤ form .records) × RecordsIn pool i form image start end enabled previous next lprev lnext
 
 abbrev μ-loop : tie.MeasureT-loop
-μ-loop image start₀ end₀ enabled₀ previous₀ next₀ lprev₀ lnext₀ i₀ start end enabled previous next lprev lnext i =
-    pool - i
+μ-loop image form start₀ end₀ enabled₀ previous₀ next₀ lprev₀ lnext₀ from size i₀ count start end enabled previous next lprev lnext i =
+    form .records - i
+
+records-at-requires : tie.Need-records-at-requires Inv-loop μ-loop
+records-at-requires c κs = c .before .pre .0 .lawful
+
+record-size-requires : tie.Need-record-size-requires Inv-loop μ-loop
+record-size-requires c κs = c .before .before .pre .0 .lawful
 
 loop-holds : tie.Need-loop-holds Inv-loop μ-loop
 loop-holds c =
-    let fresh = c .before .pre .1 in
-    (refl, decode-start current _ _ _ _ _ _ _ _ (fresh .starts) (fresh .ends) (fresh .flags) (fresh .previouses) (fresh .nexts) (fresh .lprevs) (fresh .lnexts))
+    let start = c .before .before .before in
+    let fresh = start .pre .1 .1 in
+    (ap (λ (n : ℕ). plain (start .args .form) (start .args .image .now) n 0) (sub-zero (start .args .form .records)), omega arith, decode-start _ _ pool _ _ _ _ _ _ _ (fresh .starts) (fresh .ends) (fresh .flags) (fresh .previouses) (fresh .nexts) (fresh .lprevs) (fresh .lnexts))
+
+-- the record of this turn
+turn : (c : tie.In-loop Inv-loop μ-loop) → let sizes = c .before .before in let start = sizes .before .before .before in
+    Place (start .args .form) (start .args .image .now) (sizes .before .records-at .result) (sizes .record-size .result) (c .before .loop .i)
+turn c =
+    let sizes = c .before .before in
+    let start = sizes .before .before .before in
+    place (start .args .form) (start .pre .0 .lawful) (start .args .image .now) (start .pre .1 .0) _ _ (c .before .loop .i) (sizes .before .records-at .ensures) (sizes .record-size .ensures) (omega arith)
 
 mul-at : tie.Need-mul-at Inv-loop μ-loop
-mul-at c = omega arith
+mul-at c = let p = turn c in let s = p .fits in omega arith
 
 add-at : tie.Need-add-at Inv-loop μ-loop
-add-at c = omega arith
+add-at c = let p = turn c in let s = p .fits in omega arith
 
 add-flag : tie.Need-add-flag Inv-loop μ-loop
-add-flag c = omega arith
+add-flag c = let p = turn c in let s = p .fits in omega arith
 
 shared-slice-read-flag : tie.Need-shared-slice-read-flag Inv-loop μ-loop
-shared-slice-read-flag c = omega arith
+shared-slice-read-flag c = let p = turn (c .before) in let r = p .room in omega arith
 
 is-fresh-requires : tie.Need-is-fresh-requires Inv-loop μ-loop
-is-fresh-requires c κs = omega arith
+is-fresh-requires c κs = let at = c .before .before in (at .before .before .before .before .before .pre .0 .lawful, turn at .room)
 
 add-i : tie.Need-add-i Inv-loop μ-loop
 add-i c = omega arith
@@ -48,87 +65,99 @@ loop-again : tie.Need-loop-again Inv-loop μ-loop
 loop-again c =
     let compared = c .before in
     let zero = compared .before in
-    let head = zero .before .before .before in
-    let l = head .loop in
-    let image = head .before .before .args .image .now in
-    let fresh = sym (compared .is-fresh .ensures) ∙ c .if2 .taken in (
-      plain-next current _ pool (l .i) (omega arith) (plain-unused current image (recordAt current (l .i)) true (zero .if1 .taken) (sym fresh)) ∙ l .inv .0,
-      decode-pass current _ _ _ _ _ _ _ _ (l .i) (omega arith) (l .inv .1) (zero .if1 .taken) fresh,
+    let head = zero .before .before in
+    let l = head .before .loop in
+    let start = head .before .before .before .before .before in
+    let f = start .args .form in
+    let image = start .args .image .now in
+    let here = turn head .here in
+    let off = ap (λ (a : ℕ). flagAt image a) (sym here) ∙ zero .if1 .taken in
+    let fresh = ap (freshAt f image) (sym here) ∙ sym (compared .is-fresh .ensures) ∙ c .if2 .taken in (
+      plain-next f image (f .records) (l .i) (omega arith) (plain-unused f image (recordAt f (l .i)) true off (sym fresh)) ∙ l .inv .0,
+      omega arith,
+      decode-pass f image pool _ _ _ _ _ _ _ (l .i) (omega (arith, start .pre .0 .room)) (l .inv .2) off fresh,
     )
 
 returns : tie.Need-returns Inv-loop μ-loop
 returns c =
     let compared = c .before in
     let zero = compared .before in
-    let head = zero .before .before .before in
-    let l = head .loop in
-    let image = head .before .before .args .image .now in
-    let stale = sym (compared .is-fresh .ensures) ∙ c .if2 .left in
-    record { told = sym (plain-stop current _ pool (l .i) (omega arith) (plain-unused current image (recordAt current (l .i)) false (zero .if1 .taken) (sym stale))) ∙ l .inv .0; read = λ e. true≢false (sym e) }
+    let head = zero .before .before in
+    let l = head .before .loop in
+    let start = head .before .before .before .before .before in
+    let f = start .args .form in
+    let image = start .args .image .now in
+    let here = turn head .here in
+    let off = ap (λ (a : ℕ). flagAt image a) (sym here) ∙ zero .if1 .taken in
+    let stale = ap (freshAt f image) (sym here) ∙ sym (compared .is-fresh .ensures) ∙ c .if2 .left in
+    record { told = sym (plain-stop f image (f .records) (l .i) (omega arith) (plain-unused f image (recordAt f (l .i)) false off (sym stale))) ∙ l .inv .0; read = λ e. true≢false (sym e) }
 
 returns-2 : tie.Need-returns-2 Inv-loop μ-loop
 returns-2 c =
     let some = c .before in
-    let head = some .before .before .before in
-    let l = head .loop in
-    let image = head .before .before .args .image .now in
-    record { told = sym (plain-stop current _ pool (l .i) (omega arith) (plain-neither current image (recordAt current (l .i)) (some .if1 .left) (c .if3 .taken))) ∙ l .inv .0; read = λ e. true≢false (sym e) }
+    let head = some .before .before in
+    let l = head .before .loop in
+    let start = head .before .before .before .before .before in
+    let f = start .args .form in
+    let image = start .args .image .now in
+    let flag = ap (λ (a : ℕ). flagAt image a) (turn head .here) in
+    record { told = sym (plain-stop f image (f .records) (l .i) (omega arith) (plain-neither f image (recordAt f (l .i)) (λ e. some .if1 .left (flag ∙ e)) (λ e. c .if3 .taken (flag ∙ e)))) ∙ l .inv .0; read = λ e. true≢false (sym e) }
 
 record-in-requires : tie.Need-record-in-requires Inv-loop μ-loop
-record-in-requires c κs = omega arith
+record-in-requires c κs = let at = c .before .before .before in (at .before .before .before .before .before .pre .0 .lawful, turn at .room)
 
 mul-start : tie.Need-mul-start Inv-loop μ-loop
-mul-start c = omega arith
+mul-start c = omega (arith, c .before .before .before .before .before .before .before .before .before .pre .0 .room)
 
 element-write-start : tie.Need-element-write-start Inv-loop μ-loop
 element-write-start c =
-    let l = c .before .before .before .before .before .loop in
-    omega (arith, l .inv .1 .starts .sized)
+    let at = c .before .before .before .before .before in
+    omega (arith, at .loop .inv .2 .starts .sized, at .before .before .before .before .pre .0 .room)
 
 mul-end : tie.Need-mul-end Inv-loop μ-loop
-mul-end c = omega arith
+mul-end c = omega (arith, c .before .before .before .before .before .before .before .before .before .pre .0 .room)
 
 element-write-end : tie.Need-element-write-end Inv-loop μ-loop
 element-write-end c =
-    let l = c .before .before .before .before .before .loop in
-    omega (arith, l .inv .1 .ends .sized)
+    let at = c .before .before .before .before .before in
+    omega (arith, at .loop .inv .2 .ends .sized, at .before .before .before .before .pre .0 .room)
 
 element-write-enabled : tie.Need-element-write-enabled Inv-loop μ-loop
 element-write-enabled c =
-    let l = c .before .before .before .before .before .loop in
-    omega (arith, l .inv .1 .flags .sized)
+    let at = c .before .before .before .before .before in
+    omega (arith, at .loop .inv .2 .flags .sized, at .before .before .before .before .pre .0 .room)
 
 mul-previous : tie.Need-mul-previous Inv-loop μ-loop
-mul-previous c = omega arith
+mul-previous c = omega (arith, c .before .before .before .before .before .before .before .before .before .pre .0 .room)
 
 element-write-previous : tie.Need-element-write-previous Inv-loop μ-loop
 element-write-previous c =
-    let l = c .before .before .before .before .before .loop in
-    omega (arith, l .inv .1 .previouses .sized)
+    let at = c .before .before .before .before .before in
+    omega (arith, at .loop .inv .2 .previouses .sized, at .before .before .before .before .pre .0 .room)
 
 mul-next : tie.Need-mul-next Inv-loop μ-loop
-mul-next c = omega arith
+mul-next c = omega (arith, c .before .before .before .before .before .before .before .before .before .pre .0 .room)
 
 element-write-next : tie.Need-element-write-next Inv-loop μ-loop
 element-write-next c =
-    let l = c .before .before .before .before .before .loop in
-    omega (arith, l .inv .1 .nexts .sized)
+    let at = c .before .before .before .before .before in
+    omega (arith, at .loop .inv .2 .nexts .sized, at .before .before .before .before .pre .0 .room)
 
 mul-lprev : tie.Need-mul-lprev Inv-loop μ-loop
-mul-lprev c = omega arith
+mul-lprev c = omega (arith, c .before .before .before .before .before .before .before .before .before .pre .0 .room)
 
 element-write-lprev : tie.Need-element-write-lprev Inv-loop μ-loop
 element-write-lprev c =
-    let l = c .before .before .before .before .before .loop in
-    omega (arith, l .inv .1 .lprevs .sized)
+    let at = c .before .before .before .before .before in
+    omega (arith, at .loop .inv .2 .lprevs .sized, at .before .before .before .before .pre .0 .room)
 
 mul-lnext : tie.Need-mul-lnext Inv-loop μ-loop
-mul-lnext c = omega arith
+mul-lnext c = omega (arith, c .before .before .before .before .before .before .before .before .before .pre .0 .room)
 
 element-write-lnext : tie.Need-element-write-lnext Inv-loop μ-loop
 element-write-lnext c =
-    let l = c .before .before .before .before .before .loop in
-    omega (arith, l .inv .1 .lnexts .sized)
+    let at = c .before .before .before .before .before in
+    omega (arith, at .loop .inv .2 .lnexts .sized, at .before .before .before .before .pre .0 .room)
 
 add-i-2 : tie.Need-add-i-2 Inv-loop μ-loop
 add-i-2 c = omega arith
@@ -139,17 +168,26 @@ loop-less-2 c = omega arith
 loop-again-2 : tie.Need-loop-again-2 Inv-loop μ-loop
 loop-again-2 c =
     let one = c .before in
-    let head = one .before .before .before .before in
-    let l = head .loop in
-    let image = head .before .before .args .image .now in (
-      plain-next current _ pool (l .i) (omega arith) (plain-used current image (recordAt current (l .i)) (one .if3 .left)) ∙ l .inv .0,
-      decode-put current _ _ _ _ _ _ _ _ (l .i) (omega arith) (l .inv .1) _ (one .if3 .left) (c .record-in .ensures),
+    let head = one .before .before .before in
+    let l = head .before .loop in
+    let start = head .before .before .before .before .before in
+    let f = start .args .form in
+    let image = start .args .image .now in
+    let here = turn head .here in
+    let on = ap (λ (a : ℕ). flagAt image a) (sym here) ∙ one .if3 .left in (
+      plain-next f image (f .records) (l .i) (omega arith) (plain-used f image (recordAt f (l .i)) on) ∙ l .inv .0,
+      omega arith,
+      decode-put f image pool _ _ _ _ _ _ _ (l .i) (omega (arith, start .pre .0 .room)) (l .inv .2) _ on (c .record-in .ensures ∙ ap (entryIn f image) here),
     )
 
 returns-3 : tie.Need-returns-3 Inv-loop μ-loop
 returns-3 c =
     let l = c .before .loop in
-    record { told = sym (plain-end current _ pool (l .i) (omega arith)) ∙ l .inv .0; read = λ e. decode-end current _ _ _ _ _ _ _ _ (l .i) (omega arith) (l .inv .1) }
+    let start = c .before .before .before .before .before in
+    let f = start .args .form in
+    let image = start .args .image .now in
+    let all : l .i ≡ f .records = omega (arith, l .inv .1) in
+    record { told = sym (plain-end f image (f .records) (l .i) (omega arith)) ∙ l .inv .0; read = λ e. decode-end f image pool _ _ _ _ _ _ _ (l .i) (f .records) all (l .inv .2) }
 
 pub read-records-spec : {M : Type 1} → statement M
 read-records-spec =
@@ -157,6 +195,8 @@ read-records-spec =
     (tie.spec
     Inv-loop
     μ-loop
+    records-at-requires
+    record-size-requires
     loop-holds
     mul-at
     add-at
