@@ -1,0 +1,3 @@
+-- Laws of an account.
+pub mod Exact
+pub mod Ways

@@ -1,0 +1,3 @@
+-- What the contracts cite of an account.
+pub mod Account
+pub mod Lent
