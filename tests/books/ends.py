@@ -1,5 +1,7 @@
 """How the commands end: every end has a sentence and a status, whatever cannot be read or written."""
 import os
+import pty
+import re
 import shutil
 import subprocess
 import sys
@@ -131,7 +133,34 @@ def progressing(_):
         yield f"progress {'at a' if is_one else 'without a'} terminal", None if terminal.text == due else f"it is {terminal.text!r}"
 
 
+def said_to_terminal(words):
+    """The status of a command whose standard error is a terminal, and all that it shows there."""
+    ours, theirs = pty.openpty()
+    running = subprocess.Popen([RUN, *words], stdin=subprocess.DEVNULL, stdout=subprocess.DEVNULL, stderr=theirs)
+    os.close(theirs)
+    said = b""
+    while True:
+        try:
+            said += os.read(ours, 65536)
+        except OSError:  # nobody writes to it any more
+            break
+    os.close(ours)
+    return running.wait(timeout=300), said.decode()
+
+
+def at_a_terminal(folder):
+    """How far a long file is, and no trace of it at the end; of a short one, or where something fails, no more than that."""
+    calls = folder.write("calls", b"f 0 4096\n" + b"a 16 0\nf 0 16\n" * 100000)
+    log = folder.write("log", b"ok\n" + b"ok 0\nok\n" * 100000)
+    for words, done in ((["books", calls], "entered"), (["check", calls, log], "judged")):
+        status, said = said_to_terminal(words)
+        is_right = status == 0 and re.fullmatch(rf"(\rrun: \d+ lines (read|{done})\x1b\[K)*\rrun: \d+ lines {done}\x1b\[K\r\x1b\[K", said)
+        yield f"{words[0]} of a long file at a terminal", None if is_right else f"status {status}, {said[-500:]!r}"
+    status, said = said_to_terminal(["books", folder.write("calls", "f 0 8")])
+    yield "a short file at a terminal", None if (status, said) == (0, "") else f"status {status}, {said!r}"
+
+
 def cases(words, is_few=False):
-    for group in (asked_wrongly, named_like_words, unreadable, unwritable, far_and_empty, false_programs, progressing):
+    for group in (asked_wrongly, named_like_words, unreadable, unwritable, far_and_empty, false_programs, progressing, at_a_terminal):
         with Folder() as folder:
             yield from group(folder)

@@ -10,8 +10,9 @@ from pathlib import Path
 
 PROJECT = Path(__file__).resolve().parents[2]
 RUN = PROJECT / "run"
-sys.path.insert(0, str(PROJECT / "tools" / "books"))
+sys.path[:0] = [str(PROJECT / "tools" / "books"), str(PROJECT / "tests")]
 
+import cases as table
 import held
 import pieces
 import turns
@@ -20,14 +21,15 @@ from progress import Progress
 from words import Words
 
 Ended = namedtuple("Ended", "status out said")
+RECORDS = table.table().records
 
 
 def program():
     """The words that run the proved program, without a shell between; None where it cannot be built."""
     if subprocess.run([*turns.PROGRAM], stdin=subprocess.DEVNULL).returncode:
         return None
-    made = sorted((PROJECT / "target" / "run").glob("script.*"))
-    return [made[0]] if platform.machine() == "x86_64" and len(made) == 1 else list(turns.PROGRAM)
+    made = sorted((PROJECT / "target" / "run").glob(f"script.{platform.machine()}.*"))
+    return [made[0]] if len(made) == 1 else list(turns.PROGRAM)
 
 
 def bounded(words, files, few, is_few):

@@ -60,6 +60,10 @@ def cases(words, is_few=False):
         yield "the same vouchers as of its calls", None if is_right else f"{recorded.out}\n{played.out}"
         for name, (given, sentence) in FAULTY.items():
             ended = run("books", folder.write("journal", given))
-            yield held_to(name, ended, 2, rf".*The books close: .*\nThe journal is faulty: {sentence}\.\n", "")
+            yield held_to(name, ended, 2, rf".*\nThe books do NOT close: the journal is faulty, {sentence}\. Free bytes are, so far, .*\n", "")
+        for version in (0, 2, 27):
+            ended = run("books", folder.write("journal", bytes([version]) + journal(("f 5 1", 0))[1:]))
+            said = rf"run: .*/journal begins with the byte {version}: it is no text, and no journal of this version, which begins with 1\n"
+            yield held_to(f"a journal of version {version}", ended, 2, "", said)
         for name, blocks, status, out in JUDGED:
             yield held_to(name, run("books", folder.write("journal", journal(*blocks))), status, out, "")

@@ -48,8 +48,34 @@ def rows_printed(out):
     return tuple(tables)
 
 
+# last bytes and totals with more digits than any number that is written down
+WIDE = [
+    "f 999990 20|a 5 0|f 1 9",
+    "f 0 99999|f 100000 99999|f 200000 99999|a 7 0|r 99990 4 3",
+    "f 9 9|f 50 60|f 200 900|f 2000 9000|f 20000 90000|a 99 3|f 99999 99999",
+    "f 9223372036854775000 808|f 0 9000000000000000000|a 3 62",
+]
+
+
+def crooked(out):
+    """The first row that ends elsewhere than the head of its table; of a listing there is no sum."""
+    for table in out.split("\n\n")[:2]:
+        head, *rows = [line for line in table.split("\n") if line and not re.match(r" +(no \d|bad): ", line)]
+        wrong = next((row for row in rows if len(row) != len(head)), None)
+        if wrong is not None:
+            return f"{head!r}, and below it {wrong!r}"
+    return None
+
+
+def straight(folder):
+    for calls in WIDE:
+        for words in ([], ["--hex"]):
+            yield f"straight columns{' in hexadecimal' if words else ''}: {calls}", crooked(run("books", folder.write("calls", calls), *words).out)
+
+
 def cases(words, is_few=False):
     with Folder() as folder:
+        yield from straight(folder)
         for seed in range(4 if is_few else FILES):
             rng, is_hex = random.Random(seed), seed % 2 == 1
             calls = [call(rng) for _ in range(LINES)]

@@ -1,13 +1,12 @@
 """How the program ends where it cannot read or write: it says so, and what it wrote is the beginning of what was due."""
 import fcntl
 import os
-import platform
 import re
 import subprocess
 import tempfile
 import time
 
-from program import ROOT, from_file, lines, shown
+from program import ROOT, built, from_file, lines, shown
 
 RUN = os.path.join(ROOT, "run")
 CALLS = os.path.join(ROOT, "crates", "script", "stdin")
@@ -91,11 +90,8 @@ def full_pipe():
 
 
 def interrupted():
-    """A signal that interrupts a call, and a call that moves a part, lose nothing. Elsewhere the program runs by an emulator, whose own
-    calls these would be."""
-    if platform.machine() != "x86_64":
-        return None
-    program, source = os.path.join(ROOT, "target", "bin", "script"), os.path.join(os.path.dirname(__file__), "interrupted.c")
+    """A signal that interrupts a call, and a call that moves a part, lose nothing."""
+    program, source = built(), os.path.join(os.path.dirname(__file__), "interrupted.c")
     given, expected = open(CALLS, "rb").read(), open(os.path.join(os.path.dirname(CALLS), "stdout"), "rb").read()
     with tempfile.TemporaryDirectory() as folder:
         library = os.path.join(folder, "interrupted.so")

@@ -1,10 +1,13 @@
 """Runs the script program on an input, and holds what it prints to what is expected."""
+import glob
 import os
+import platform
 import subprocess
 import tempfile
 
 ROOT = os.path.realpath(os.path.join(os.path.dirname(__file__), "..", ".."))
 PROGRAM = [os.path.join(ROOT, "tools", "program"), "script"]
+EMULATED = [PROGRAM[0], "--emulated", *PROGRAM[1:]]
 
 
 class Case:
@@ -25,6 +28,11 @@ def lines(texts):
 
 def build():
     return subprocess.run(PROGRAM, stdin=subprocess.DEVNULL).returncode == 0
+
+
+def built():
+    """The file of the program of this machine."""
+    return glob.glob(os.path.join(ROOT, "target", "run", f"script.{platform.machine()}.*"))[0]
 
 
 def from_file(given, command=PROGRAM, **more):

@@ -13,6 +13,7 @@ OK, LIST, RANGE = (re.compile(form) for form in (f"ok {NUMBER}", f"list {NUMBER}
 Answer = namedtuple("Answer", "kind value ranges")
 DONE, BAD = Answer("ok", None, None), Answer("bad", None, None)
 REFUSED = {number: Answer("no", number, None) for number in range(1, 5)}
+DAMAGED = REFUSED[2]
 FIXED = {"ok\n": DONE, "bad\n": BAD, **{f"no {number}\n": answer for number, answer in REFUSED.items()}}
 
 

@@ -23,13 +23,10 @@ def books(options, out):
     desk = Desk(Words(options.is_hex, "block" if is_recorded else "line"))
     window = Window(held.calls) if options.pages else None
     enter_all(desk, held, is_recorded, window, out, progress)
-    do_close, sentence = closing(desk)
+    is_right, sentence = closing(desk, f"the journal is faulty, block {held.fault.index} {held.fault}" if held.fault else None)
     said = [refusals(desk), sentence]
-    if held.fault:
-        said.append(f"The journal is faulty: block {held.fault.index} {held.fault}.")
     out.write("\n" + "\n".join(said) + "\n")
     out.flush()
-    is_right = do_close and not held.fault
     write_pages(options.pages, desk, window, Told(os.path.basename(name), said, is_right, is_recorded, list(held.tally.sayings())))
     return FAILED if not is_right else REFUSED if desk.refused else CLOSES
 

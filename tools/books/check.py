@@ -1,6 +1,6 @@
 """`./run check CALLS ANSWERS`: a box's answers, judged by its own vouchers alone."""
 import turns
-from answers import text_of
+from answers import DAMAGED, text_of
 from desk import UNEXPLAINED, UNREAD, Desk
 from held import answers_of, calls_alone_of, read
 from progress import EVERY, Progress
@@ -26,17 +26,14 @@ def check(options, out):
         if number % EVERY == 0:
             progress.at(number)
     progress.end()
-    differ = turns.counts_differ(held, answered)
-    if differ:
-        out.write(f"{differ}\n")
-    do_close, sentence = closing(desk)
+    do_close, sentence = closing(desk, turns.counts_differ(held, answered))
     out.write(f"{refusals(desk)}\n{sentence}\n")
-    return FAILED if differ or not do_close else REFUSED if desk.refused else CLOSES
+    return FAILED if not do_close else REFUSED if desk.refused else CLOSES
 
 
 def remarks(entry):
     """What is no fault, and still odd."""
-    if entry.reason in (UNEXPLAINED, UNREAD):
+    if entry.reason in (UNEXPLAINED, UNREAD) or entry.answer == DAMAGED:
         yield f"answered {text_of(entry.answer)}, and {entry.reason}"
 
 

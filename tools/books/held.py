@@ -1,4 +1,5 @@
 """What was read, held in a file that has no name, line by line: it is read again beside its answers, and memory holds none of it."""
+import re
 import sys
 import tempfile
 from contextlib import contextmanager
@@ -6,11 +7,12 @@ from itertools import islice
 
 import answers
 import journal
-from calls import text_of
+from calls import TOP, covered, text_of
 from output import Unwritten
 from reading import Tally, Unreadable, blocks
 
 TOGETHER = 4096  # blocks of a journal
+OFFERS = re.compile("^f ([0-9]+) ([0-9]+)$", re.MULTILINE)
 
 
 @contextmanager
@@ -31,6 +33,7 @@ class Held:
         self.progress, self.tally = progress, Tally()
         self.count = self.calls = 0
         self.longest, self.digits = 4, 1  # of a line, and of a number
+        self.reach = 1  # no accepted call covers this byte, or one after it
         self.fault = None
 
     def put(self, block):
@@ -42,7 +45,12 @@ class Held:
         self.calls += len(lines) - lines.count("")
         self.longest = max(self.longest, max(map(len, lines)))
         self.digits = max(self.digits, max(map(len, block.split()), default=1))
+        self.cover(int(start) + int(size) for start, size in OFFERS.findall(block))
         self.progress.at(self.count)
+
+    def cover(self, ends):
+        """Bytes up to these may be covered; no call is accepted that passes the last address."""
+        self.reach = max(self.reach, max((end for end in ends if end <= TOP), default=1))
 
     def lines(self, *more):
         """The lines again, from the first, each with its end; behind them more, which are not counted."""
@@ -55,14 +63,17 @@ class Held:
 def calls_or_journal_of(source, progress):
     """What was read, and whether it is a journal."""
     is_recorded = journal.is_journal(source.peek(1))
+    if not is_recorded and journal.is_none(source.peek(1)):
+        raise Unreadable(f"begins with the byte {source.peek(1)[0]}: it is no text, and no journal of this version, which begins with {journal.VERSION[0]}")
     return (journal_of if is_recorded else calls_of)(source, progress), is_recorded
 
 
 def calls_alone_of(source, progress):
     """The calls of a file that is no journal."""
-    if journal.is_journal(source.peek(1)):
+    held, is_recorded = calls_or_journal_of(source, progress)
+    if is_recorded:
         raise Unreadable("is a journal, which has its own answers: ./run books judges them")
-    return calls_of(source, progress)
+    return held
 
 
 def calls_of(source, progress):
@@ -90,15 +101,17 @@ def journal_of(source, progress):
     source.read(len(journal.VERSION))
     recorded = journal.blocks(source)
     while not held.fault:
-        lines = []
+        lines, ends = [], []
         try:
             for _, call, number in islice(recorded, TOGETHER):
                 lines.append(f"{text_of(call)} {number}\n")
+                ends.append(covered(call, number)[1])
         except journal.Faulty as fault:
             held.fault = fault
         if not lines:
             break
         held.put("".join(lines))
+        held.cover(ends)
     return held
 
 

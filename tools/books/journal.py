@@ -19,6 +19,11 @@ def is_journal(beginning):
     return beginning[:1] == VERSION
 
 
+def is_none(beginning):
+    """Nor does one with another control character: a journal of another version does."""
+    return beginning[:1] < b" " and beginning[:1] not in (b"", b"\t", b"\n", b"\r")
+
+
 def blocks(source):
     """Index, call and recorded number of each block behind the version byte; `source` is buffered."""
     index = 0

@@ -1,6 +1,6 @@
 """The books as text: a row a voucher, the bytes by their last voucher, both sums, and a closing sentence."""
 from answers import text_of as answer_text
-from calls import TOP
+from calls import MOST
 from calls import text_of as call_text
 from words import counted
 
@@ -11,10 +11,9 @@ class Report:
     def __init__(self, words, held):
         self.words = words
         self.number = max(len(words.noun), len(str(held.count)))
-        digits = min(held.digits, len(str(TOP)))
-        address = len(words.address(min(10**digits, TOP) - 1))
-        call = held.longest + max(0, address - digits)
-        self.covers, self.total = max(7, 2 * address + 4), max(5, digits)
+        address, digits = len(words.address(held.reach - 1)), min(held.digits, len(str(MOST)))
+        call = held.longest + max(0, len(words.address(min(10**digits, MOST) - 1)) - digits)
+        self.covers, self.total = max(7, 2 * address + 4), max(5, len(str(held.reach)))
         self.row = f"%{self.number}s  %-{call}s  %-{max(6, 3 + address)}s  %-{self.covers}s  %{1 + self.total}s  %{self.total}s\n"
 
     def head(self):
@@ -53,18 +52,19 @@ class Report:
         return f"{piece:<{self.covers}}  {last:<{by}}  {is_free:<5}  {size:>{self.total}}\n"
 
 
-def closing(desk):
-    """Whether the books close, and the sentence that says so, with every sum."""
+def closing(desk, missing=None):
+    """Whether the books close, and the sentence that says so, with every sum. Where something is missing, which is said, they do not."""
     book = desk.book
     by = [("by the vouchers", book.total), ("byte by byte", book.summed())]
     by += [] if desk.listed is None else [("in the listing", desk.listed.value)]
-    if desk.first_fault is None and len({total for _, total in by}) == 1:
+    if not missing and desk.first_fault is None and len({total for _, total in by}) == 1:
         names = ", ".join(name for name, _ in by[:-1]) + f" and {by[-1][0]}"
         ranges = f", in {counted(len(book.free), 'range')}" if book.total else ""
         return True, f"The books close: {names} {counted(book.total, 'byte')} {'is' if book.total == 1 else 'are'} free{ranges}."
     where = "" if desk.first_fault is None else f", first at {desk.words.voucher(desk.first_fault)}"
     sums = ", ".join(f"{name} {total}" for name, total in by)
-    return False, f"The books do NOT close{where}. Free bytes are, {sums}."
+    why = f": {missing}" if missing else ""
+    return False, f"The books do NOT close{where}{why}. Free bytes are{', so far' if missing else ''}, {sums}."
 
 
 def refusals(desk):

@@ -61,7 +61,7 @@ def counts_differ(held, log):
     """In words; None where each call has its answer."""
     if log.calls in (held.count, held.calls):
         return None
-    return f"There {'is' if held.calls == 1 else 'are'} {counted(held.calls, 'call')}, and {counted(log.calls, 'answer')}."
+    return f"there {'is' if held.calls == 1 else 'are'} {counted(held.calls, 'call')}, and {counted(log.calls, 'answer')}"
 
 
 def by_journal(held):

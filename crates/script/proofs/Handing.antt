@@ -6,6 +6,7 @@ use Prim.Native.Nat.{ℕ, _≤_}
 use native.Mathlib.Omega.{arith}
 use lib.ListN.{length, take}
 use lib.Seq.{length-take-le}
+use Rattle.pool_state.specs.declared.MemoryAllocator.{MemoryAllocator}
 use Rattle.script_chunks.specs.Input.{Hears, Closes}
 use Rattle.script_chunks.specs.declared.Reading.{Reading}
 use Rattle.streams.specs.Streams.{Writes}
@@ -20,25 +21,24 @@ handed-by r k e w out h v =
     let size = length-take-le (r .at) out h in
     record { reading = refl; hands = record { whole = λ f. v .whole f ∙ size; part = λ f. (let p = v .part f in omega arith) }; count = refl; ended = refl }
 
-module _ (n : ℕ) (s : Session) (carry out : List ℕ) (s′ : Session) (out′ : List ℕ) where
-  pub closed-by : (r : Reading) (at : ℕ) → r ≡ fresh (s .reading) 0 → Closes n r carry out at out′
-      → Handed (record { state = r .state; held = r .held; from = 0; at = at }) 0 true s′ → Closed n s carry out s′ out′
+module _ (n : ℕ) (m : MemoryAllocator) (s : Session) (carry out : List ℕ) (m′ : MemoryAllocator) (s′ : Session) (out′ : List ℕ) where
+  pub closed-by : (r : Reading) (at : ℕ) → r ≡ fresh (s .reading) 0 → Closes n m r carry out m′ at out′
+      → Handed (record { held = 0; from = 0; at = at }) 0 true s′ → Closed n m s carry out m′ s′ out′
   closed-by r at e w h =
       record {
-        closes = rw (h .reading) (subst (λ (q : Reading). Closes n q carry out at out′) e w);
-        state = ap (λ (q : Reading). q .state) (h .reading) ∙ ap (λ (q : Reading). q .state) e;
-        held = ap (λ (q : Reading). q .held) (h .reading) ∙ ap (λ (q : Reading). q .held) e;
+        closes = rw (h .reading) (subst (λ (q : Reading). Closes n m q carry out m′ at out′) e w);
+        held = ap (λ (q : Reading). q .held) (h .reading);
         from = ap (λ (q : Reading). q .from) (h .reading);
         hands = h .hands;
         count = h .count;
         ended = h .ended;
       }
 
-  pub answered-by : (chunk carry′ : List ℕ) (r next : Reading) → r ≡ fresh (s .reading) (s .reading .from) → Hears n r carry (take (s .count) chunk) out next carry′ out′
-      → Handed next (s .count) false s′ → Answered n s carry chunk out s′ carry′ out′
+  pub answered-by : (chunk carry′ : List ℕ) (r next : Reading) → r ≡ fresh (s .reading) (s .reading .from) → Hears n m r carry (take (s .count) chunk) out m′ next carry′ out′
+      → Handed next (s .count) false s′ → Answered n m s carry chunk out m′ s′ carry′ out′
   answered-by chunk carry′ r next e w h =
       record {
-        hears = rw (h .reading) (subst (λ (q : Reading). Hears n q carry (take (s .count) chunk) out next carry′ out′) e w);
+        hears = rw (h .reading) (subst (λ (q : Reading). Hears n m q carry (take (s .count) chunk) out m′ next carry′ out′) e w);
         hands = h .hands;
         count = h .count;
         ended = h .ended;

@@ -6,19 +6,25 @@ use mathlib.Core.Logic.{_⊎_, inl, inr}
 use Prim.Native.Nat.{ℕ, suc, _+_, _-_, _<_, _≤_}
 use native.Mathlib.Omega.{arith}
 use lib.ListN.{length}
+use Rattle.linked_lists.specs.Links.{none}
+use Rattle.rules.specs.Rules.{Book, empty}
+use Rattle.pool_state.specs.State.{stateOf, Holds}
+use Rattle.pool_state.specs.declared.MemoryAllocator.{MemoryAllocator}
+use Rattle.pool_state.proofs.Book.{sound-holds}
 use Rattle.script_answers.specs.Script.{room}
 use Rattle.script_chunks.specs.Input.{kept}
 use Rattle.script_sessions.specs.Sessions.{begin, goesOn, Prepared, Turned, Run, starts, turns}
 use Rattle.script_sessions.specs.declared.Session.{Session}
 use Rattle.script_sessions.proofs.Turns.{prepared-on}
+use Rattle.script_sessions.proofs.Books.{run-sound}
 use Rattle.script.specs.Program.{enough, Over}
 
 -- so many turns are taken, and so many may follow
-pub record Going (n : ℕ) (carry₀ chunk₀ out₀ : List ℕ) (s : Session) (carry chunk out : List ℕ) (more : ℕ) : Type 0 where
+pub record Going (n : ℕ) (carry₀ chunk₀ out₀ : List ℕ) (m : MemoryAllocator) (s : Session) (carry chunk out : List ℕ) (more : ℕ) : Type 0 where
   pub taken : ℕ
   pub read : List ℕ
   pub handed : List ℕ
-  pub run : Run n taken read handed s carry chunk out
+  pub run : Run n taken read handed m s carry chunk out
   pub turns : taken + more ≡ enough
   pub prepared : Prepared n s carry chunk out
   pub carry-size : length carry ≡ length carry₀
@@ -26,9 +32,9 @@ pub record Going (n : ℕ) (carry₀ chunk₀ out₀ : List ℕ) (s : Session) (
   pub out-size : length out ≡ length out₀
 
 module _ (n : ℕ) (carry₀ chunk₀ out₀ : List ℕ) where
-  pub going-none : (s : Session) → s ≡ begin n → kept ≤ length carry₀ → room n ≤ length out₀ → Going n carry₀ chunk₀ out₀ s carry₀ chunk₀ out₀ enough
-  going-none s e h k =
-      rw e (record {
+  pub going-none : (m : MemoryAllocator) (s : Session) → m ≡ stateOf n empty → s ≡ begin → kept ≤ length carry₀ → room n ≤ length out₀ → Going n carry₀ chunk₀ out₀ m s carry₀ chunk₀ out₀ enough
+  going-none m s i e h k =
+      rw (i, e) (record {
         taken = 0;
         read = [];
         handed = [];
@@ -40,23 +46,28 @@ module _ (n : ℕ) (carry₀ chunk₀ out₀ : List ℕ) where
         out-size = refl;
       })
 
-  module _ (s : Session) (carry chunk out : List ℕ) (more : ℕ) (g : Going n carry₀ chunk₀ out₀ s carry chunk out more) where
-    pub going-on : (s′ : Session) (carry′ chunk′ out′ : List ℕ) → goesOn s ≡ true → 0 < more
-        → length carry′ ≡ length carry → length chunk′ ≡ length chunk → length out′ ≡ length out → Turned n s carry chunk out s′ carry′ chunk′ out′ → Going n carry₀ chunk₀ out₀ s′ carry′ chunk′ out′ (more - 1)
-    going-on s′ carry′ chunk′ out′ on h c d e w =
+  module _ (m : MemoryAllocator) (s : Session) (carry chunk out : List ℕ) (more : ℕ) (g : Going n carry₀ chunk₀ out₀ m s carry chunk out more) where
+    -- where a turn follows, the state holds a book
+    pub going-holds : n ≤ none → goesOn s ≡ true → (b : Book) × Holds n b m
+    going-holds small on = (_, sound-holds n m (run-sound n small (g .taken) (g .read) (g .handed) m s carry chunk out (g .run) on))
+
+    pub going-on : (m′ : MemoryAllocator) (s′ : Session) (carry′ chunk′ out′ : List ℕ) → goesOn s ≡ true → 0 < more
+        → length carry′ ≡ length carry → length chunk′ ≡ length chunk → length out′ ≡ length out → Turned n m s carry chunk out m′ s′ carry′ chunk′ out′
+        → Going n carry₀ chunk₀ out₀ m′ s′ carry′ chunk′ out′ (more - 1)
+    going-on m′ s′ carry′ chunk′ out′ on h c d e w =
         let t = g .turns in
         record {
           taken = suc (g .taken);
           read = _;
           handed = _;
-          run = turns (g .taken) (g .read) (g .handed) s carry chunk out s′ carry′ chunk′ out′ (g .run) on w;
+          run = turns (g .taken) (g .read) (g .handed) m s carry chunk out m′ s′ carry′ chunk′ out′ (g .run) on w;
           turns = omega arith;
-          prepared = prepared-on n s carry chunk out (g .prepared) s′ carry′ chunk′ out′ c d e w;
+          prepared = prepared-on n m s carry chunk out (g .prepared) m′ s′ carry′ chunk′ out′ c d e w;
           carry-size = c ∙ g .carry-size;
           chunk-size = d ∙ g .chunk-size;
           out-size = e ∙ g .out-size;
         }
 
     pub over : (goesOn s ≡ false) ⊎ (more ≡ 0) → Over n s carry chunk out
-    over (inl e) = record { turns = g .taken; read = g .read; handed = g .handed; run = g .run; over = inl e }
-    over (inr e) = let t = g .turns in record { turns = g .taken; read = g .read; handed = g .handed; run = g .run; over = inr (omega arith) }
+    over (inl e) = record { taken = g .taken; read = g .read; handed = g .handed; state = m; run = g .run; over = inl e }
+    over (inr e) = let t = g .turns in record { taken = g .taken; read = g .read; handed = g .handed; state = m; run = g .run; over = inr (omega arith) }

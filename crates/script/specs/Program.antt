@@ -4,8 +4,10 @@ use mathlib.Core.Bool.{Bool, false}
 use mathlib.Core.List.{List}
 use mathlib.Core.Path.{_≡_}
 use mathlib.Core.Logic.{_⊎_}
+use Rattle.pool_state.specs.Lent.{Lent, was, is, OfLent, turns}
+use Rattle.pool_state.specs.declared.MemoryAllocator.{MemoryAllocator}
 use Rattle.script_chunks.specs.declared.Reading.{Reading}
-use Rattle.script_sessions.specs.Sessions.{goesOn, HandsOver, Run}
+use Rattle.script_sessions.specs.Sessions.{goesOn, HandsOver, Answered, Closed, Turned, Run}
 use Rattle.script_sessions.specs.declared.Session.{Session}
 
 -- the text of the reading r was handed to the writer
@@ -15,14 +17,25 @@ pub record Handed (r : Reading) (k : ℕ) (e : Bool) (s : Session) : Type 0 wher
   pub count : s .count ≡ k
   pub ended : s .ended ≡ e
 
+-- a turn, of the ten fields of a state that are lent
+abbrev pub AnsweredIn : ℕ → Session → Lent (List ℕ) → Lent (List ℕ) → Lent (List ℕ) → Session → OfLent
+AnsweredIn n s carry chunk out s′ = turns (λ m m′. Answered n m s (was carry) (was chunk) (was out) m′ s′ (is carry) (is out))
+
+abbrev pub ClosedIn : ℕ → Session → Lent (List ℕ) → Lent (List ℕ) → Session → OfLent
+ClosedIn n s carry out s′ = turns (λ m m′. Closed n m s (was carry) (was out) m′ s′ (is out))
+
+abbrev pub TurnedIn : ℕ → Session → Lent (List ℕ) → Lent (List ℕ) → Lent (List ℕ) → Session → OfLent
+TurnedIn n s carry chunk out s′ = turns (λ m m′. Turned n m s (was carry) (was chunk) (was out) m′ s′ (is carry) (is chunk) (is out))
+
 -- 2^64 - 1: more turns than any run takes
 abbrev pub enough : ℕ
 enough = 18446744073709551615
 
 -- turns were taken from the beginning on, until the input had ended or a read or a write had failed
 pub record Over (n : ℕ) (s : Session) (carry chunk out : List ℕ) : Type 0 where
-  pub turns : ℕ
+  pub taken : ℕ
   pub read : List ℕ
   pub handed : List ℕ
-  pub run : Run n turns read handed s carry chunk out
-  pub over : (goesOn s ≡ false) ⊎ (turns ≡ enough)
+  pub state : MemoryAllocator
+  pub run : Run n taken read handed state s carry chunk out
+  pub over : (goesOn s ≡ false) ⊎ (taken ≡ enough)

@@ -1,6 +1,9 @@
 // The script program: calls from standard input, one a line, and their answers to standard output.
 use libc::STDIN_FILENO;
 use libc::STDOUT_FILENO;
+use pool_state::LISTS;
+use pool_state::NONE;
+use pool_state::POOL;
 use script_chunks::Reading;
 use script_chunks::answer_last;
 use script_sessions::Session;
@@ -14,11 +17,11 @@ use streams::write_all;
 ghost use Prim.Native.Nat.{_<_, _≤_};
 ghost use lib.ListN.{length};
 ghost use Rattle.pool_state.specs.Shown.{pool};
-ghost use Rattle.pool_state.specs.Lent.{was, is};
+ghost use Rattle.pool_state.specs.Lent.{is, HoldsSome};
 ghost use Rattle.script_answers.specs.Script.{room};
 ghost use Rattle.script_chunks.specs.Input.{kept, Ready};
-ghost use Rattle.script_sessions.specs.Sessions.{fresh, Prepared, Answered, Closed, Turned};
-ghost use Rattle.script.specs.Program.{Handed, Over};
+ghost use Rattle.script_sessions.specs.Sessions.{fresh, Prepared};
+ghost use Rattle.script.specs.Program.{Handed, AnsweredIn, ClosedIn, TurnedIn, Over};
 
 // The bytes that are kept of a line: one more than a call can have.
 const KEPT: usize = 81;
@@ -44,40 +47,133 @@ fn hand_over(r: Reading, count: usize, ended: bool, out: &[u8]) -> Session
 }
 
 // The next lines of the chunk are answered.
-fn answer_more(s: Session, carry: &mut [u8], chunk: &[u8], out: &mut [u8]) -> Session
+fn answer_more(
+    total: &mut u64,
+    first: &mut u16,
+    heads: &mut [u16; LISTS],
+    start: &mut [u64; POOL],
+    end: &mut [u64; POOL],
+    enabled: &mut [bool; POOL],
+    previous: &mut [u16; POOL],
+    next: &mut [u16; POOL],
+    lprev: &mut [u16; POOL],
+    lnext: &mut [u16; POOL],
+    s: Session,
+    carry: &mut [u8],
+    chunk: &[u8],
+    out: &mut [u8],
+) -> Session
+    requires { ⌜ HoldsSome pool total first heads start end enabled previous next lprev lnext ⌝ }
     requires { ⌜ Prepared pool s (now carry) (now chunk) (now out) × (s .reading .from < s .count) ⌝ }
-    ensures { λ s′. ⌜ Answered pool s (was carry) (was chunk) (was out) s′ (is carry) (is out) ⌝ }
+    ensures { λ s′. ⌜ AnsweredIn pool s carry chunk out s′ total first heads start end enabled previous next lprev lnext ⌝ }
 {
     let reading = s.reading;
     let count = s.count;
     let r = afresh(reading, reading.from);
-    let next = answer_part(r, carry, &chunk[..count], out);
-    hand_over(next, count, false, out)
+    let told = answer_part(
+        total,
+        first,
+        heads,
+        start,
+        end,
+        enabled,
+        previous,
+        next,
+        lprev,
+        lnext,
+        r,
+        carry,
+        &chunk[..count],
+        out,
+    );
+    hand_over(told, count, false, out)
 }
 
 // The input has ended: a line that no newline ends is answered too.
-fn close(s: Session, carry: &[u8], out: &mut [u8]) -> Session
+fn close(
+    total: &mut u64,
+    first: &mut u16,
+    heads: &mut [u16; LISTS],
+    start: &mut [u64; POOL],
+    end: &mut [u64; POOL],
+    enabled: &mut [bool; POOL],
+    previous: &mut [u16; POOL],
+    next: &mut [u16; POOL],
+    lprev: &mut [u16; POOL],
+    lnext: &mut [u16; POOL],
+    s: Session,
+    carry: &[u8],
+    out: &mut [u8],
+) -> Session
+    requires { ⌜ HoldsSome pool total first heads start end enabled previous next lprev lnext ⌝ }
     requires { ⌜ Ready pool (fresh (s .reading) 0) (now carry) (now out) ⌝ }
-    ensures { λ s′. ⌜ Closed pool s (was carry) (was out) s′ (is out) ⌝ }
+    ensures { λ s′. ⌜ ClosedIn pool s carry out s′ total first heads start end enabled previous next lprev lnext ⌝ }
 {
     let reading = s.reading;
     let r = afresh(reading, 0);
-    let at = answer_last(r, carry, out);
-    let state = r.state;
+    let at = answer_last(
+        total,
+        first,
+        heads,
+        start,
+        end,
+        enabled,
+        previous,
+        next,
+        lprev,
+        lnext,
+        r,
+        carry,
+        out,
+    );
     let last = Reading {
-        state: state,
-        held: r.held,
+        held: 0,
         from: 0,
         at: at,
     };
     hand_over(last, 0, true, out)
 }
 
-// Reads once. Where the input has ended, the session closes.
-fn read_more(s: Session, carry: &[u8], chunk: &mut [u8], out: &mut [u8]) -> Session
-    requires { ⌜ Ready pool (fresh (s .reading) 0) (now carry) (now out) × (s .count ≤ s .reading .from) ⌝ }
-    ensures { λ s′. ⌜ Turned pool s (was carry) (was chunk) (was out) s′ (was carry) (is chunk) (is out) ⌝ }
+// What is left of the chunk is answered before more is read. Where the input has ended, the session closes.
+fn turn(
+    total: &mut u64,
+    first: &mut u16,
+    heads: &mut [u16; LISTS],
+    start: &mut [u64; POOL],
+    end: &mut [u64; POOL],
+    enabled: &mut [bool; POOL],
+    previous: &mut [u16; POOL],
+    next: &mut [u16; POOL],
+    lprev: &mut [u16; POOL],
+    lnext: &mut [u16; POOL],
+    s: Session,
+    carry: &mut [u8],
+    chunk: &mut [u8],
+    out: &mut [u8],
+) -> Session
+    requires { ⌜ HoldsSome pool total first heads start end enabled previous next lprev lnext ⌝ }
+    requires { ⌜ Prepared pool s (now carry) (now chunk) (now out) ⌝ }
+    ensures { λ s′. ⌜ TurnedIn pool s carry chunk out s′ total first heads start end enabled previous next lprev lnext ⌝ }
 {
+    let reading = s.reading;
+    if reading.from < s.count {
+        return answer_more(
+            total,
+            first,
+            heads,
+            start,
+            end,
+            enabled,
+            previous,
+            next,
+            lprev,
+            lnext,
+            s,
+            carry,
+            chunk,
+            out,
+        );
+    }
     let read = read_some(
         STDIN_FILENO,
         chunk,
@@ -88,32 +184,59 @@ fn read_more(s: Session, carry: &[u8], chunk: &mut [u8], out: &mut [u8]) -> Sess
         return restarted(s, 0, true);
     }
     if count == 0 {
-        return close(s, carry, out);
+        return close(
+            total,
+            first,
+            heads,
+            start,
+            end,
+            enabled,
+            previous,
+            next,
+            lprev,
+            lnext,
+            s,
+            carry,
+            out,
+        );
     }
     restarted(s, count, false)
 }
 
-// What is left of the chunk is answered before more is read.
-fn turn(s: Session, carry: &mut [u8], chunk: &mut [u8], out: &mut [u8]) -> Session
-    requires { ⌜ Prepared pool s (now carry) (now chunk) (now out) ⌝ }
-    ensures { λ s′. ⌜ Turned pool s (was carry) (was chunk) (was out) s′ (is carry) (is chunk) (is out) ⌝ }
-{
-    let reading = s.reading;
-    if reading.from < s.count {
-        return answer_more(s, carry, chunk, out);
-    }
-    read_more(s, carry, chunk, out)
-}
-
-// A proved loop has to end, and nothing says that an input does: the turns are more than any run takes.
+// Ten locals are the whole state. A proved loop has to end, and nothing says that an input does: the turns are more than any run takes.
 fn answer_all(carry: &mut [u8], chunk: &mut [u8], out: &mut [u8]) -> Session
     requires { ⌜ (kept ≤ length (now carry)) × (room pool ≤ length (now out)) ⌝ }
     ensures { λ s. ⌜ Over pool s (is carry) (is chunk) (is out) ⌝ }
 {
+    let mut total: u64 = 0;
+    let mut first: u16 = NONE;
+    let mut heads = [NONE; LISTS];
+    let mut start = [0u64; POOL];
+    let mut end = [0u64; POOL];
+    let mut enabled = [false; POOL];
+    let mut previous = [NONE; POOL];
+    let mut next = [NONE; POOL];
+    let mut lprev = [NONE; POOL];
+    let mut lnext = [NONE; POOL];
     let mut session = begun();
     let mut turns = u64::MAX;
     while goes_on(session) && turns > 0 {
-        session = turn(session, carry, chunk, out);
+        session = turn(
+            &mut total,
+            &mut first,
+            &mut heads,
+            &mut start,
+            &mut end,
+            &mut enabled,
+            &mut previous,
+            &mut next,
+            &mut lprev,
+            &mut lnext,
+            session,
+            carry,
+            chunk,
+            out,
+        );
         turns -= 1;
     }
     session

@@ -7,12 +7,14 @@ use native.Mathlib.Omega.{arith}
 use lib.Dec.{eqb}
 use lib.ListN.{length, take, drop, length-take, length-drop}
 use lib.Seq.{take-take, take-add, drop-drop}
+use Rattle.rules.specs.Rules.{empty}
+use Rattle.pool_state.specs.State.{stateOf}
 use Rattle.pool_state.specs.declared.MemoryAllocator.{MemoryAllocator}
 use Rattle.script_lines.specs.Script.{lineOf}
 use Rattle.script_answers.specs.Script.{textOf, stateAfter}
 use Rattle.script_lines.specs.Search.{firstFrom, firstIn}
 use Rattle.script_lines.specs.declared.find.Found.the-variants.{At, Nothing}
-use Rattle.script_chunks.specs.Input.{Told, ends, joined, heard, between}
+use Rattle.script_chunks.specs.Input.{Told, silent, ends, joined, heard, between}
 
 -- the parts of an input may be heard one after the other
 pub heard-append : (n : ℕ) (t : Told) (a b : List ℕ) → heard n t (a ++ b) ≡ heard n (heard n t a) b
@@ -90,9 +92,9 @@ module _ (n : ℕ) (chunk : List ℕ) (from end : ℕ) (h : from ≤ length chun
   length-rest : length rest ≡ length chunk - from
   length-rest = simp (length-take, length-drop) (omega arith)
 
-  pub end-within : (t : Told) → (from ≤ end) × (end < length chunk)
-  end-within t =
-      let w = ended n t rest from end (sym e) in
+  pub end-within : (from ≤ end) × (end < length chunk)
+  end-within =
+      let w = ended n (silent (stateOf n empty)) rest from end (sym e) in
       let low = w .0 in
       let high = w .1 .0 in
       let size = length-rest in

@@ -5,6 +5,7 @@ use mathlib.Core.List.{List, [], _∷_, _++_}
 use mathlib.Core.Path.{_≡_}
 use lib.Dec.{eqb}
 use lib.ListN.{length, take, drop}
+use Rattle.pool_state.specs.Lent.{Lent, was, is, OfLent, turns}
 use Rattle.pool_state.specs.declared.MemoryAllocator.{MemoryAllocator}
 use Rattle.script_lines.specs.Script.{lineOf}
 use Rattle.script_answers.specs.Script.{roomy, textOf, stateAfter}
@@ -36,9 +37,12 @@ closed n t (b ∷ l) = ends n t
 abbrev pub silent : MemoryAllocator → Told
 silent s = record { state = s; part = []; text = [] }
 
--- all that was printed, once the input has ended
+-- what was told, and all that was printed, once the input has ended
+abbrev pub toldOfAll : ℕ → Told → Told
+toldOfAll n t = closed n t (t .part)
+
 abbrev pub textOfAll : ℕ → Told → List ℕ
-textOfAll n t = closed n t (t .part) .text
+textOfAll n t = toldOfAll n t .text
 
 -- ---- what the arrays hold
 
@@ -60,9 +64,9 @@ pub record Joins (l carry : List ℕ) (held : ℕ) (carry′ : List ℕ) (r : �
   pub within : r ≤ length carry
   pub bytes : take r carry′ ≡ take (length carry) (take held carry ++ l)
 
--- what was told, with its text in the first places of the output
-pub record Shows (t : Told) (r : Reading) (carry out : List ℕ) : Type 0 where
-  pub state : r .state ≡ t .state
+-- what was told: the state s, the line in the carry, and the text in the first places of the output
+pub record Shows (t : Told) (s : MemoryAllocator) (r : Reading) (carry out : List ℕ) : Type 0 where
+  pub state : s ≡ t .state
   pub part : Holds (t .part) carry (r .held)
   pub room : r .at ≤ length out
   pub text : take (r .at) out ≡ t .text
@@ -77,26 +81,37 @@ pub record Ready (n : ℕ) (r : Reading) (carry out : List ℕ) : Type 0 where
 
 -- the bytes l, up to the place `to` of the chunk, end no line
 pub record Rests (l : List ℕ) (to : ℕ) (r : Reading) (carry : List ℕ) (r′ : Reading) (carry′ : List ℕ) : Type 0 where
-  pub state : r′ .state ≡ r .state
   pub joins : Joins l carry (r .held) carry′ (r′ .held)
   pub place : r′ .from ≡ to
   pub at : r′ .at ≡ r .at
 
 -- the chunk is heard up to the place `to`, which makes u of what was told
-pub record Steps (u : Told → Told) (to : ℕ) (r : Reading) (carry out : List ℕ) (r′ : Reading) (carry′ out′ : List ℕ) : Type 0 where
+pub record Steps (u : Told → Told) (to : ℕ) (s : MemoryAllocator) (r : Reading) (carry out : List ℕ) (s′ : MemoryAllocator) (r′ : Reading) (carry′ out′ : List ℕ) : Type 0 where
   pub place : r′ .from ≡ to
   pub size : length carry′ ≡ length carry
   pub held : r′ .held ≤ length carry
   pub room : r′ .at ≤ length out
-  pub shows : (t : Told) → Shows t r carry out → Shows (u t) r′ carry′ out′
+  pub shows : (t : Told) → Shows t s r carry out → Shows (u t) s′ r′ carry′ out′
 
 -- a part of the chunk is heard, and not nothing
-pub record Hears (n : ℕ) (r : Reading) (carry chunk out : List ℕ) (r′ : Reading) (carry′ out′ : List ℕ) : Type 0 where
+pub record Hears (n : ℕ) (s : MemoryAllocator) (r : Reading) (carry chunk out : List ℕ) (s′ : MemoryAllocator) (r′ : Reading) (carry′ out′ : List ℕ) : Type 0 where
   pub onward : r .from < r′ .from
   pub within : r′ .from ≤ length chunk
-  pub steps : Steps (λ (t : Told). heard n t (between (r .from) (r′ .from) chunk)) (r′ .from) r carry out r′ carry′ out′
+  pub steps : Steps (λ (t : Told). heard n t (between (r .from) (r′ .from) chunk)) (r′ .from) s r carry out s′ r′ carry′ out′
 
 -- the input is at its end
-pub record Closes (n : ℕ) (r : Reading) (carry out : List ℕ) (at : ℕ) (out′ : List ℕ) : Type 0 where
+pub record Closes (n : ℕ) (s : MemoryAllocator) (r : Reading) (carry out : List ℕ) (s′ : MemoryAllocator) (at : ℕ) (out′ : List ℕ) : Type 0 where
   pub room : at ≤ length out
-  pub text : (t : Told) → Shows t r carry out → take at out′ ≡ textOfAll n t
+  pub state : (t : Told) → Shows t s r carry out → s′ ≡ toldOfAll n t .state
+  pub text : (t : Told) → Shows t s r carry out → take at out′ ≡ textOfAll n t
+
+-- ---- the same of the ten fields of a state that are lent
+
+abbrev pub StepsIn : (Told → Told) → ℕ → Reading → Lent (List ℕ) → Lent (List ℕ) → Reading → OfLent
+StepsIn u to r carry out r′ = turns (λ s s′. Steps u to s r (was carry) (was out) s′ r′ (is carry) (is out))
+
+abbrev pub HearsIn : ℕ → Reading → Lent (List ℕ) → Lent (List ℕ) → Lent (List ℕ) → Reading → OfLent
+HearsIn n r carry chunk out r′ = turns (λ s s′. Hears n s r (was carry) (was chunk) (was out) s′ r′ (is carry) (is out))
+
+abbrev pub ClosesIn : ℕ → Reading → Lent (List ℕ) → Lent (List ℕ) → ℕ → OfLent
+ClosesIn n r carry out at = turns (λ s s′. Closes n s r (was carry) (was out) s′ at (is out))

@@ -1,17 +1,17 @@
-// The input in chunks. A line that a chunk does not end is carried over to the next.
-use pool_state::MemoryAllocator;
+// The input in chunks, answered on the lent fields of a sound state. A line that a chunk does not end is carried over to the next.
+use pool_state::LISTS;
+use pool_state::POOL;
 use script_answers::answer_line;
 use script_lines::find::Found;
 use script_lines::find::find_newline;
 ghost use Prim.Native.Nat.{_+_, _<_, _≤_};
 ghost use lib.ListN.{length};
 ghost use Rattle.pool_state.specs.Shown.{pool};
-ghost use Rattle.pool_state.specs.Lent.{was, is};
-ghost use Rattle.script_chunks.specs.Input.{Told, ends, joined, between, Joins, Ready, Rests, Steps, Hears, Closes};
+ghost use Rattle.pool_state.specs.Lent.{was, is, HoldsSome};
+ghost use Rattle.script_chunks.specs.Input.{Told, ends, joined, between, Joins, Ready, Rests, StepsIn, HearsIn, ClosesIn};
 
-// The state; how many bytes of the carry belong to the line that has not ended; the next place in the chunk; the next in the output.
+// How many bytes of the carry belong to the line that has not ended; the next place in the chunk; the next in the output.
 pub struct Reading {
-    pub state: MemoryAllocator,
     pub held: usize,
     pub from: usize,
     pub at: usize,
@@ -35,19 +35,49 @@ pub fn hold(carry: &mut [u8], held: usize, chunk: &[u8], from: usize, to: usize)
     count
 }
 
-// The line that the newline at `end` ends is answered.
-fn answer_ended(r: Reading, carry: &mut [u8], chunk: &[u8], end: usize, out: &mut [u8]) -> Reading
-    requires { ⌜ Ready pool r (now carry) (now out) × (r .from ≤ end) × (end < length (now chunk)) ⌝ }
-    ensures { λ r′. ⌜ Steps (λ (t : Told). ends pool (joined t (between (r .from) end (was chunk)))) (end + 1) r (was carry) (was out) r′ (is carry) (is out) ⌝ }
+// The line that the newline at `stop` ends is answered.
+fn answer_ended(
+    total: &mut u64,
+    first: &mut u16,
+    heads: &mut [u16; LISTS],
+    start: &mut [u64; POOL],
+    end: &mut [u64; POOL],
+    enabled: &mut [bool; POOL],
+    previous: &mut [u16; POOL],
+    next: &mut [u16; POOL],
+    lprev: &mut [u16; POOL],
+    lnext: &mut [u16; POOL],
+    r: Reading,
+    carry: &mut [u8],
+    chunk: &[u8],
+    stop: usize,
+    out: &mut [u8],
+) -> Reading
+    requires { ⌜ HoldsSome pool total first heads start end enabled previous next lprev lnext ⌝ }
+    requires { ⌜ Ready pool r (now carry) (now out) × (r .from ≤ stop) × (stop < length (now chunk)) ⌝ }
+    ensures { λ r′. ⌜ StepsIn (λ (t : Told). ends pool (joined t (between (r .from) stop (was chunk)))) (stop + 1) r carry out r′ total first heads start end enabled previous next lprev lnext ⌝ }
 {
-    let held = hold(carry, r.held, chunk, r.from, end);
-    let answered = answer_line(r.state, &carry[..held], out, r.at);
-    let state = answered.state;
+    let from = stop + 1;
+    let held = hold(carry, r.held, chunk, r.from, stop);
+    let at = answer_line(
+        total,
+        first,
+        heads,
+        start,
+        end,
+        enabled,
+        previous,
+        next,
+        lprev,
+        lnext,
+        &carry[..held],
+        out,
+        r.at,
+    );
     Reading {
-        state: state,
         held: 0,
-        from: end + 1,
-        at: answered.next,
+        from: from,
+        at: at,
     }
 }
 
@@ -56,37 +86,95 @@ fn hold_rest(r: Reading, carry: &mut [u8], chunk: &[u8]) -> Reading
     requires { ⌜ (r .held ≤ length (now carry)) × (r .from ≤ length (now chunk)) ⌝ }
     ensures { λ r′. ⌜ Rests (between (r .from) (length (was chunk)) (was chunk)) (length (was chunk)) r (was carry) r′ (is carry) ⌝ }
 {
-    let end = chunk.len();
-    let held = hold(carry, r.held, chunk, r.from, end);
-    let state = r.state;
+    let size = chunk.len();
+    let held = hold(carry, r.held, chunk, r.from, size);
     Reading {
-        state: state,
         held: held,
-        from: end,
+        from: size,
         at: r.at,
     }
 }
 
 // The next line of the chunk is answered; where no line ends in it any more, the rest is held.
-pub fn answer_next(r: Reading, carry: &mut [u8], chunk: &[u8], out: &mut [u8]) -> Reading
+pub fn answer_next(
+    total: &mut u64,
+    first: &mut u16,
+    heads: &mut [u16; LISTS],
+    start: &mut [u64; POOL],
+    end: &mut [u64; POOL],
+    enabled: &mut [bool; POOL],
+    previous: &mut [u16; POOL],
+    next: &mut [u16; POOL],
+    lprev: &mut [u16; POOL],
+    lnext: &mut [u16; POOL],
+    r: Reading,
+    carry: &mut [u8],
+    chunk: &[u8],
+    out: &mut [u8],
+) -> Reading
+    requires { ⌜ HoldsSome pool total first heads start end enabled previous next lprev lnext ⌝ }
     requires { ⌜ Ready pool r (now carry) (now out) × (r .from < length (now chunk)) ⌝ }
-    ensures { λ r′. ⌜ Hears pool r (was carry) (was chunk) (was out) r′ (is carry) (is out) ⌝ }
+    ensures { λ r′. ⌜ HearsIn pool r carry chunk out r′ total first heads start end enabled previous next lprev lnext ⌝ }
 {
-    let from = r.from;
-    match find_newline(chunk, from, chunk.len()) {
-        Found::At(end) => answer_ended(r, carry, chunk, end, out),
+    match find_newline(chunk, r.from, chunk.len()) {
+        Found::At(stop) => answer_ended(
+            total,
+            first,
+            heads,
+            start,
+            end,
+            enabled,
+            previous,
+            next,
+            lprev,
+            lnext,
+            r,
+            carry,
+            chunk,
+            stop,
+            out,
+        ),
         Found::Nothing => hold_rest(r, carry, chunk),
     }
 }
 
 // The input has ended: what is held is a line too, unless it is nothing. The place after its answer.
-pub fn answer_last(r: Reading, carry: &[u8], out: &mut [u8]) -> usize
+pub fn answer_last(
+    total: &mut u64,
+    first: &mut u16,
+    heads: &mut [u16; LISTS],
+    start: &mut [u64; POOL],
+    end: &mut [u64; POOL],
+    enabled: &mut [bool; POOL],
+    previous: &mut [u16; POOL],
+    next: &mut [u16; POOL],
+    lprev: &mut [u16; POOL],
+    lnext: &mut [u16; POOL],
+    r: Reading,
+    carry: &[u8],
+    out: &mut [u8],
+) -> usize
+    requires { ⌜ HoldsSome pool total first heads start end enabled previous next lprev lnext ⌝ }
     requires { ⌜ Ready pool r (now carry) (now out) ⌝ }
-    ensures { λ at. ⌜ Closes pool r (was carry) (was out) at (is out) ⌝ }
+    ensures { λ at. ⌜ ClosesIn pool r carry out at total first heads start end enabled previous next lprev lnext ⌝ }
 {
     let held = r.held;
     if held == 0 {
         return r.at;
     }
-    answer_line(r.state, &carry[..held], out, r.at).next
+    answer_line(
+        total,
+        first,
+        heads,
+        start,
+        end,
+        enabled,
+        previous,
+        next,
+        lprev,
+        lnext,
+        &carry[..held],
+        out,
+        r.at,
+    )
 }

@@ -1,5 +1,6 @@
 // A session of the script: bytes are read, the lines that they end are answered, and the answers are handed to the writer, turn by turn.
-use memory_allocator::new;
+use pool_state::LISTS;
+use pool_state::POOL;
 use script_answers::has_room;
 use script_chunks::Reading;
 use script_chunks::answer_next;
@@ -7,8 +8,8 @@ ghost use mathlib.Core.Path.{_≡_};
 ghost use Prim.Native.Nat.{_<_};
 ghost use lib.ListN.{length};
 ghost use Rattle.pool_state.specs.Shown.{pool};
-ghost use Rattle.pool_state.specs.Lent.{was, is};
-ghost use Rattle.script_chunks.specs.Input.{Ready, Hears};
+ghost use Rattle.pool_state.specs.Lent.{HoldsSome};
+ghost use Rattle.script_chunks.specs.Input.{Ready, HearsIn};
 ghost use Rattle.script_sessions.specs.Sessions.{begin, goesOn, fresh, restart};
 
 // The reading, with this turn's text in the first places of the output; how many bytes of the chunk were read; how many of the
@@ -23,10 +24,9 @@ pub struct Session {
 
 // Nothing is read yet.
 pub fn begun() -> Session
-    ensures { λ r. ⌜ r ≡ begin pool ⌝ }
+    ensures { λ r. ⌜ r ≡ begin ⌝ }
 {
     let reading = Reading {
-        state: new(),
         held: 0,
         from: 0,
         at: 0,
@@ -54,9 +54,7 @@ pub fn goes_on(s: Session) -> bool
 pub fn afresh(r: Reading, from: usize) -> Reading
     ensures { λ r′. ⌜ r′ ≡ fresh r from ⌝ }
 {
-    let state = r.state;
     Reading {
-        state: state,
         held: r.held,
         from: from,
         at: 0,
@@ -79,13 +77,59 @@ pub fn restarted(s: Session, count: usize, failed: bool) -> Session
 }
 
 // As many lines of the chunk are answered as the output is sure to have room for.
-pub fn answer_part(r: Reading, carry: &mut [u8], chunk: &[u8], out: &mut [u8]) -> Reading
+pub fn answer_part(
+    total: &mut u64,
+    first: &mut u16,
+    heads: &mut [u16; LISTS],
+    start: &mut [u64; POOL],
+    end: &mut [u64; POOL],
+    enabled: &mut [bool; POOL],
+    previous: &mut [u16; POOL],
+    next: &mut [u16; POOL],
+    lprev: &mut [u16; POOL],
+    lnext: &mut [u16; POOL],
+    r: Reading,
+    carry: &mut [u8],
+    chunk: &[u8],
+    out: &mut [u8],
+) -> Reading
+    requires { ⌜ HoldsSome pool total first heads start end enabled previous next lprev lnext ⌝ }
     requires { ⌜ Ready pool r (now carry) (now out) × (r .from < length (now chunk)) ⌝ }
-    ensures { λ r′. ⌜ Hears pool r (was carry) (was chunk) (was out) r′ (is carry) (is out) ⌝ }
+    ensures { λ r′. ⌜ HearsIn pool r carry chunk out r′ total first heads start end enabled previous next lprev lnext ⌝ }
 {
-    let mut reading = answer_next(r, carry, chunk, out);
+    let mut reading = answer_next(
+        total,
+        first,
+        heads,
+        start,
+        end,
+        enabled,
+        previous,
+        next,
+        lprev,
+        lnext,
+        r,
+        carry,
+        chunk,
+        out,
+    );
     while reading.from < chunk.len() && has_room(out.len(), reading.at) {
-        reading = answer_next(reading, carry, chunk, out);
+        reading = answer_next(
+            total,
+            first,
+            heads,
+            start,
+            end,
+            enabled,
+            previous,
+            next,
+            lprev,
+            lnext,
+            reading,
+            carry,
+            chunk,
+            out,
+        );
     }
     reading
 }

@@ -1,4 +1,5 @@
 use mathlib.Core.Path.{sym}
+use native.Mathlib.Omega.{arith}
 use lib.Seq.{length-take-le}
 use Rattle.pool_state.specs.Shown.{pool}
 use Rattle.script_sessions.proofs.Turns.{ready-fresh}
@@ -11,16 +12,27 @@ afresh-requires : tie.Need-afresh-requires
 afresh-requires c κs = search needs
 
 slice-aggregate-answer-part : tie.Need-slice-aggregate-answer-part
-slice-aggregate-answer-part c = sym (length-take-le _ _ (c .before .before .before .before .before .before .before .pre .0 .count))
+slice-aggregate-answer-part c =
+    let lent = c .before .before .before .before .before .before .before .before in
+    let renewed = lent .before .before .before .before in
+    sym (length-take-le _ _ (renewed .before .before .before .before .before .pre .1 .0 .count))
 
 answer-part-requires : tie.Need-answer-part-requires
 answer-part-requires c κs =
-    let f = c .before .before .before in
-    let s = f .before .before .before .before .before in
-    (rw (f .afresh .ensures) (ready-fresh pool _ _ _ _ _ (s .pre .0)), rw (f .afresh .ensures, length-take-le _ _ (s .pre .0 .count)) (s .pre .1))
+    let lent = c .before .before .before .before .before .before .before in
+    let renewed = lent .before .before .before .before .before .before in
+    let start = renewed .before .before .before .before .before in
+    let p = start .pre .1 .0 in (
+      start .pre .0,
+      (rw (renewed .afresh .ensures) (ready-fresh pool _ _ _ _ _ p), rw (renewed .afresh .ensures, length-take-le _ _ (p .count)) (start .pre .1 .1)),
+    )
 
 hand-over-requires : tie.Need-hand-over-requires
-hand-over-requires c κs = search needs
+hand-over-requires c κs =
+    let answered = c .before .before .before .before .before in
+    let room = answered .answer-part .ensures .steps .room in
+    let same = answered .answer-part .kept .1 .1 .1 .1 .1 .1 .1 .1 .1 .1 .1 .1 .1 .0 in
+    omega arith
 
 same-length : tie.Need-same-length
 same-length c = search needs
@@ -30,8 +42,10 @@ same-length-2 c = search needs
 
 returns : tie.Need-returns
 returns c =
-    let a = c .before .before .before .before .before .before in
-    answered-by pool _ _ _ _ _ _ _ _ _ (a .before .before .before .before .afresh .ensures) (a .answer-part .ensures) (c .hand-over .ensures)
+    let answered = c .before .before .before .before .before .before in
+    let lent = answered .before .before .before .before .before .before .before in
+    let renewed = lent .before .before .before .before .before .before .before in
+    answered-by pool _ _ _ _ _ _ _ _ _ _ _ (renewed .afresh .ensures) (answered .answer-part .ensures) (c .hand-over .ensures)
 
 pub answer-more-spec : {M : Type 1} → statement M
 answer-more-spec =

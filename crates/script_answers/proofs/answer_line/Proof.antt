@@ -1,10 +1,10 @@
-use borrow.Author.Needs.{needs}
-use native.Mathlib.Omega.{arith}
 use mathlib.Core.Path.{refl, sym, _∙_}
+use native.Mathlib.Omega.{arith}
+use lib.Dec.{lit≤}
 use Rattle.pool_state.specs.Shown.{pool}
-use Rattle.script_lines.specs.declared.parse.Line.the-variants.{Bad}
 use Rattle.script_answers.specs.Script.{textOf, stateAfter}
-use Rattle.script_answers.proofs.Replies.{unanswered, has-space, answered}
+use Rattle.script_answers.proofs.Replies.{has-space, unanswered, answered, chain-here, listing-says}
+use borrow.Author.Needs.{needs}
 use Rattle.script_answers.proofs.answer_line.Statement.{statement}
 use Rattle.script_answers.proofs.answer_line.Tie as tie
 
@@ -28,9 +28,10 @@ enum-told c = search needs
 
 put-listing-requires : tie.Need-put-listing-requires
 put-listing-requires c κs =
-    let e = c .before .before .before .before in
-    let s = e .before .before .before .before in
-    has-space pool (s .args .s) Bad (s .args .out .now) (s .args .at) _ (e .before .has-room .ensures) (e .if1 .left)
+    let told = c .before .before .before .before .before .before in
+    let roomy = told .before .before .before in
+    let start = roomy .before .before .before .before in
+    ((_, chain-here pool (lit≤ tt) _ (start .pre)), has-space pool (start .args .out .now) (start .args .at) _ (roomy .before .has-room .ensures) (roomy .if1 .left))
 
 enum-told-2 : tie.Need-enum-told-2
 enum-told-2 c = search needs
@@ -43,20 +44,23 @@ same-length c = search needs
 
 returns-2 : tie.Need-returns-2
 returns-2 c =
-    let k = c .before .before .before .before .before in
-    let e = k .before .before .before in
-    answered pool _ _ _ _ _ (e .before .has-room .ensures) (e .if1 .left) _ _ _ (sym (k .before .before .parse-line .ensures) ∙ k .request .given .1) (c .before .before .answer-request .ensures)
+    let served = c .before .before in
+    let lent = served .before .before .before .before .before .before .before in
+    let asked = lent .before .before .before .before .before .before in
+    let roomy = asked .before .before .before in
+    answered pool _ _ _ _ _ (roomy .before .has-room .ensures) (roomy .if1 .left) _ _ _ _ (sym (asked .before .before .parse-line .ensures) ∙ asked .request .given .1) (served .answer-request .ensures)
 
 same-length-2 : tie.Need-same-length-2
 same-length-2 c = search needs
 
 returns-3 : tie.Need-returns-3
-unfolding textOf stateAfter
 returns-3 c =
-    let k = c .before .before .before .before in
-    let e = k .before .before .before in
-    answered pool _ _ _ _ _ (e .before .has-room .ensures) (e .if1 .left) _ _ _ (sym (k .before .before .parse-line .ensures) ∙ k .enum-told .given .1)
-    (record { state = refl; text = c .before .before .put-listing .ensures })
+    let printed = c .before .before in
+    let told = printed .before .before .before .before .before .before .before in
+    let roomy = told .before .before .before in
+    let start = roomy .before .before .before .before in
+    answered pool _ _ _ _ _ (roomy .before .has-room .ensures) (roomy .if1 .left) _ _ _ _ (sym (told .before .before .parse-line .ensures) ∙ told .enum-told .given .1)
+    (listing-says pool (lit≤ tt) _ (start .pre) _ _ _ _ (printed .put-listing .ensures _ (chain-here pool (lit≤ tt) _ (start .pre))))
 
 same-length-3 : tie.Need-same-length-3
 same-length-3 c = search needs
@@ -64,9 +68,9 @@ same-length-3 c = search needs
 returns-4 : tie.Need-returns-4
 unfolding textOf stateAfter
 returns-4 c =
-    let k = c .before .before .before .before in
-    let e = k .before .before .before in
-    answered pool _ _ _ _ _ (e .before .has-room .ensures) (e .if1 .left) _ _ _ (sym (k .before .before .parse-line .ensures) ∙ k .enum-told2 .given .1)
+    let told = c .before .before .before .before in
+    let roomy = told .before .before .before in
+    answered pool _ _ _ _ _ (roomy .before .has-room .ensures) (roomy .if1 .left) _ _ _ _ (sym (told .before .before .parse-line .ensures) ∙ told .enum-told2 .given .1)
     (record { state = refl; text = record { short = omega arith; puts = c .before .before .put-bad .ensures } })
 
 pub answer-line-spec : {M : Type 1} → statement M
