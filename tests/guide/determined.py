@@ -69,8 +69,8 @@ def _shown(project, page):
 
 def held(project, page):
     """What is wrong with the tables, and with what is said of `requires`."""
-    stated, shown = sentences(project), list(_shown(project, page))
-    said = {span for line, span in page.spans() if line < next(entries(page)).line}
+    stated, shown, first = sentences(project), list(_shown(project, page)), next(entries(page)).line
+    said = {span for line, span in page.spans() if line < first}
     for line, crate, name, sentence in shown:
         found = contract(project, crate, name)
         if not found:

@@ -1,37 +1,34 @@
-"""The figures of the pages: counted lines, the map of the folders, and the picture of the layers."""
+"""The figures of the pages: what is to be read, the map of the folders, and the picture of the layers."""
 import re
 import subprocess
+from functools import lru_cache
 
 from pages import SPAN
 from names import crates
 
-HEADER = ("files", "lines, without blank ones, to the nearest ten")
+HEADER = ("list", "lines", "read after")
 
 
-def _lines(path):
-    files = sorted(path.iterdir()) if path.is_dir() else [path]
-    return sum(1 for file in files for line in file.read_text("utf-8").splitlines() if line.strip())
+@lru_cache
+def _lists(project):
+    """Each list of tools/reading: its lines, and those that it is read after."""
+    told = subprocess.run([project / "tools" / "reading"], stdout=subprocess.PIPE, text=True, check=True).stdout
+    return {name: (lines, after) for name, lines, *after in map(str.split, told.splitlines())}
 
 
-def _to_ten(number):
-    return (number + 5) // 10 * 10
-
-
-def counted_lines(project, page):
-    """The table of what to read: each row's figure, and their sum."""
-    rows, together = page.table(*HEADER), 0
-    if not rows:
-        yield f"{page.name}: there is no table with the columns {', '.join(HEADER)}"
-    for line, (files, figure, *_) in rows:
-        names = SPAN.findall(files)
-        lost = [name for name in names if not (project / name).exists()]
-        if lost:
-            yield f"{page.name}:{line}: {', '.join(lost)} is not there"
-            continue
-        number = sum(_lines(project / name) for name in names) if names else together
-        together += number if names else 0
-        if figure != str(_to_ten(number)):
-            yield f"{page.name}:{line}: {files}: {number} lines, so write {_to_ten(number)}, not {figure}"
+def reading(project, page):
+    """The table of what to read: its lists, their lines, and which is read after which, are those of tools/reading."""
+    rows = {cells[0].strip("`"): (line, cells) for line, cells in page.table(*HEADER)}
+    lists = _lists(project)
+    for name in sorted(rows.keys() ^ lists.keys()):
+        yield f"{page.name}: the table of what to read and tools/reading do not both have a list {name}"
+    for name in rows.keys() & lists.keys():
+        line, (_, figure, after, *_) = rows[name]
+        lines, grounds = lists[name]
+        if figure != lines:
+            yield f"{page.name}:{line}: {name}: {lines} lines, so write {lines}, not {figure}"
+        if SPAN.findall(after) != grounds:
+            yield f"{page.name}:{line}: {name} is read after {', '.join(grounds) or 'nothing'}"
 
 
 def _pictures(page):

@@ -5,6 +5,7 @@ import closing
 import contracts
 import determined
 import figures
+import promises
 from exceptions import UNCALLED
 from names import Names
 from pages import FILES, KINDS, PARTS
@@ -70,9 +71,10 @@ def problems(project, pages):
     yield from filter(None, (_block_problem(project, block) for block in blocks))
     yield from _exceptions(project, called)
     yield from Names(project, pages.values(), written, called).missing()
-    yield from figures.counted_lines(project, pages[GUIDE])
+    yield from figures.reading(project, pages[GUIDE])
     yield from figures.folder_map(project, pages[GUIDE])
     yield from contracts.held(project, pages[CONTRACTS])
     yield from contracts.unnamed(project, pages[CONTRACTS])
     yield from determined.held(project, pages[CONTRACTS])
+    yield from promises.unshown(project)
     yield from _books(pages[GUIDE])

@@ -6,8 +6,7 @@ use mathlib.Core.List.{map}
 use mathlib.Core.Path.{_≡_, refl}
 use native.Mathlib.Omega.{arith}
 use lib.ListN.{length, getD}
-use Rattle.linked_lists.specs.Links.{none}
-use Rattle.linked_lists.proofs.Check.{count}
+use Rattle.linked_lists.specs.Links.{none, count}
 use Rattle.rules.specs.Rules.{sizeLists, sum}
 use Rattle.pool_state.specs.Shown.{at}
 use Rattle.pool_state.specs.declared.MemoryAllocator.{MemoryAllocator}

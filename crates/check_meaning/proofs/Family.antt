@@ -8,9 +8,9 @@ use native.Mathlib.Omega.{arith}
 use borrow.Author.Tests.{lt-ltb, le-ltb}
 use lib.Dec.{ltb}
 use lib.ListN.{length, getD}
-use Rattle.linked_lists.specs.Links.{pick, none, has}
+use Rattle.linked_lists.specs.Links.{pick, none, has, count}
 use Rattle.linked_lists.proofs.Laws.{below?, true≢false}
-use Rattle.linked_lists.proofs.Check.{count, length-count}
+use Rattle.linked_lists.proofs.Check.{length-count}
 use Rattle.rules.specs.Rules.{sizeLists}
 use Rattle.rules_laws.proofs.Shelf.{num-lt, list-number-mono}
 use Rattle.pool_state.specs.Shown.{at, keyAt}

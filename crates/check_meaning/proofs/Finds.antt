@@ -8,9 +8,9 @@ use native.Mathlib.Omega.{arith}
 use borrow.Author.Tests.{eqb-true, lt-ltb, le-ltb}
 use lib.Dec.{eqb}
 use lib.ListN.{length, getD, length-append}
-use Rattle.linked_lists.specs.Links.{pick, none, head, has, follow, Linked}
+use Rattle.linked_lists.specs.Links.{pick, none, head, has, follow, Linked, count}
 use Rattle.linked_lists.proofs.Laws.{same?, below?, true≢false, follow-walk, length-listed}
-use Rattle.linked_lists.proofs.Check.{count, covers, linked-listed, linked-after}
+use Rattle.linked_lists.proofs.Check.{covers, linked-listed, linked-after}
 use Rattle.rules.specs.Rules.{sizeLists, sum}
 use Rattle.pool_state.specs.Shown.{at}
 use Rattle.pool_state.specs.declared.MemoryAllocator.{MemoryAllocator}

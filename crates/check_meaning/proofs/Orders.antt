@@ -8,9 +8,8 @@ use native.Mathlib.Omega.{arith}
 use borrow.Author.Tests.{eq-eqb, ne-eqb}
 use lib.Dec.{eqb}
 use lib.ListN.{length, getD}
-use Rattle.linked_lists.specs.Links.{pick, head, after, beforeFrom, Fresh, Listed, has, Linked}
+use Rattle.linked_lists.specs.Links.{pick, head, after, beforeFrom, Fresh, Listed, has, Linked, count}
 use Rattle.linked_lists.proofs.Laws.{same?, true≢false, parted, has-cons, has-put, length-mid, fresh-has, fresh-unless}
-use Rattle.linked_lists.proofs.Check.{count}
 use Rattle.check_meaning.specs.Paragraph.{Link, Leads, Back, InOrder}
 
 -- ---- members

@@ -7,8 +7,7 @@ use native.Mathlib.Numerals.{add-one}
 use borrow.Author.Tests.{eq-eqb, lt-ltb}
 use lib.Dec.{eqb}
 use lib.ListN.{length, getD, length-append}
-use Rattle.linked_lists.specs.Links.{pick, none}
-use Rattle.linked_lists.proofs.Check.{count}
+use Rattle.linked_lists.specs.Links.{pick, none, count}
 use Rattle.rules.specs.Rules.{sizeLists}
 use Rattle.pool_state.specs.declared.MemoryAllocator.{MemoryAllocator}
 use Rattle.check_links.specs.Walk.{onward}

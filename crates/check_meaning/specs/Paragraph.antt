@@ -6,11 +6,9 @@ use mathlib.Core.List.{List, [], _∷_, map}
 use mathlib.Core.Path.{_≡_}
 use lib.ListN.{length, getD}
 use Rattle.linked_lists.specs.Links.{none, has}
-use Rattle.rules.specs.Rules.{top, sizeLists, sum}
+use Rattle.rules.specs.Rules.{top, sizeLists, size, sum}
 use Rattle.pool_state.specs.Shown.{at, keyAt}
 use Rattle.pool_state.specs.declared.MemoryAllocator.{MemoryAllocator}
-use Rattle.check_records.specs.Records.{used}
-use Rattle.check_links.specs.Walks.{sizeAt}
 
 -- the arrays have the places that their types say
 pub record Sized (n : ℕ) (s : MemoryAllocator) : Type 0 where
@@ -56,7 +54,7 @@ pub record Meets (n : ℕ) (These : ℕ → Type 0) (R : ℕ → ℕ → Type 0)
   pub reverse : Back previous none list
 
 abbrev pub Enabled : MemoryAllocator → ℕ → Type 0
-Enabled s i = used (s .enabled) i ≡ true
+Enabled s i = getD (s .enabled) i false ≡ true
 
 -- by address, no two overlapping or touching
 abbrev pub ByAddress : MemoryAllocator → ℕ → ℕ → Type 0
@@ -64,7 +62,7 @@ ByAddress s x y = suc (getD (s .end) x 0) < getD (s .start) y 0
 
 -- sizes never falling
 abbrev pub BySize : MemoryAllocator → ℕ → ℕ → Type 0
-BySize s x y = sizeAt (s .start) (s .end) x ≤ sizeAt (s .start) (s .end) y
+BySize s x y = size (at (s .start) (s .end) x) ≤ size (at (s .start) (s .end) y)
 
 -- the record equals the fresh one
 pub record Fresh (s : MemoryAllocator) (i : ℕ) : Type 0 where
@@ -95,6 +93,6 @@ pub record Paragraph (n : ℕ) (s : MemoryAllocator) : Type 0 where
   -- "Each enabled record has id = its index and start <= end < 2^63." (A record has no number beside its index.)
   pub proper : (i : ℕ) → i < n → Enabled s i → (getD (s .start) i 0 ≤ getD (s .end) i 0) × (getD (s .end) i 0 < top)
   -- "An unused record equals the fresh one"
-  pub unused : (i : ℕ) → i < n → used (s .enabled) i ≡ false → Fresh s i
+  pub unused : (i : ℕ) → i < n → getD (s .enabled) i false ≡ false → Fresh s i
   -- "The stored total is the sum of sizes."
   pub total : s .«free_size» ≡ sum (map (at (s .start) (s .end)) (chain .list))

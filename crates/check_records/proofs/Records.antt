@@ -10,9 +10,8 @@ use borrow.Author.Tests.{leb-true, ltb-true, le-leb, lt-ltb, eqb-true, eq-eqb, n
 use lib.Bits.{bitOr}
 use lib.Dec.{eqb, leb, ltb}
 use lib.ListN.{getD}
-use Rattle.linked_lists.specs.Links.{pick, none}
+use Rattle.linked_lists.specs.Links.{pick, none, count}
 use Rattle.linked_lists.proofs.Laws.{same?, true≢false}
-use Rattle.linked_lists.proofs.Check.{count}
 use Rattle.rules.specs.Rules.{top}
 use Rattle.check_records.specs.Records.{proper, unlinked, recordOk, all, recordAt, used, records, Proper}
 use Rattle.check_records.specs.declared.Tally.{Tally}

@@ -5,8 +5,7 @@ use mathlib.Core.List.{List}
 use mathlib.Core.Path.{_≡_}
 use lib.Dec.{eqb, leb, ltb}
 use lib.ListN.{getD}
-use Rattle.linked_lists.specs.Links.{none}
-use Rattle.linked_lists.proofs.Check.{count}
+use Rattle.linked_lists.specs.Links.{none, count}
 use Rattle.rules.specs.Rules.{top}
 use Rattle.check_records.specs.declared.Tally.{Tally}
 use Rattle.check_records.specs.declared.Tally.the-variants.{Of, Broken}

@@ -3,8 +3,8 @@ use Prim.Native.Nat.{ℕ}
 use mathlib.Core.Bool.{Bool, true, false, cond, _&&_}
 use mathlib.Core.Logic.{_≢_}
 use mathlib.Core.Path.{_≡_, refl, sym}
+use Rattle.linked_lists.specs.Links.{count}
 use Rattle.linked_lists.proofs.Laws.{true≢false}
-use Rattle.linked_lists.proofs.Check.{count}
 use Rattle.rules.specs.Rules.{sizeLists}
 use Rattle.pool_state.specs.declared.MemoryAllocator.{MemoryAllocator}
 use Rattle.check_links.specs.Walk.{onward}

@@ -10,7 +10,7 @@ use native.Mathlib.Nat.{not-suc-le-zero}
 use borrow.Author.Tests.{eq-eqb, ne-eqb, eqb-true}
 use lib.Dec.{eqb}
 use lib.ListN.{length}
-use Rattle.linked_lists.specs.Links.{pick, none, head, after, beforeFrom, Fresh, Listed, has, Linked}
+use Rattle.linked_lists.specs.Links.{pick, none, head, after, beforeFrom, Fresh, Listed, has, Linked, count}
 use Rattle.linked_lists.proofs.Laws.{same?, true≢false, not-has, parted, length-mid, fresh-has, pick-same, has-cons, fresh-both, fresh-of-listed, listed-right, narrow, listed-cut}
 
 module _ (n : ℕ) (small : n ≤ none) (next prev : ℕ → ℕ) where
@@ -72,10 +72,6 @@ module _ (n : ℕ) (small : n ≤ none) (next prev : ℕ → ℕ) where
       other i m e = true≢false (sym (rw e at m) ∙ fresh-has x xs (h .1))
 
 -- ---- all that are on are in the list, if they are as many
-
-unfoldable pub count : (ℕ → Bool) → ℕ → ℕ
-count on zero = 0
-count on (suc n) = pick (on n) (suc (count on n)) (count on n)
 
 has-more : (x z : ℕ) (l r : List ℕ) → has z (l ++ r) ≡ true → has z (l ++ x ∷ r) ≡ true
 has-more x z [] r h = has-cons x z r h

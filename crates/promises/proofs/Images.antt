@@ -1,4 +1,4 @@
--- Demand 3 of all C calls over one slice, in any order, from the last `new` on. Assumes nothing.
+-- Demand 3 of the C calls over one slice, in any order, from the last `new` on: of the single ones, and of all. Assumes nothing.
 use Prim.Native.Nat.{ℕ}
 use mathlib.Core.Bool.{true, false}
 use mathlib.Core.List.{List, [], _∷_}
@@ -20,7 +20,8 @@ use Rattle.c_calls.specs.Images.{images}
 use Rattle.c_calls.proofs.Demand.{demand, new-written}
 use Rattle.c_calls.proofs.Batches.{image-left, image-kept}
 use Rattle.promises.specs.Clients.{ClientDemand}
-use Rattle.promises.specs.Images.{ImageAct, ImageNew, ImageCall, ImagePages, ImageList, imageRenews, imageGives, imageNext, imageClient}
+use Rattle.promises.specs.Images.{ImageAct, ImageNew, ImageCall, imageRenews, imageGives, imageNext, imageClient}
+use Rattle.promises.specs.AllCalls.{AnyAct, AnyNew, AnyCall, AnyPages, AnyList, anyRenews, anyGives, anyNext, anyClient}
 use Rattle.promises.proofs.Clients.{Plays, client-demand}
 
 module _ (f : Layout) (lawful : Lawful f) where
@@ -39,26 +40,49 @@ module _ (f : Layout) (lawful : Lawful f) where
     image : (cs : List Call) → Image f (at cs)
     image cs = demand f lawful l sized .always-sound cs
 
+    -- what `new` leaves and gives
+    begins : (cs : List Call) → newOver f (at cs) .bytes ≡ newOver f l .bytes
+    begins cs = new-again l (at cs) sized (image cs)
+
     calls : ImageAct → List Call
     calls ImageNew = []
     calls (ImageCall c) = c ∷ []
-    calls (ImagePages p) = byteCall p ∷ []
-    calls (ImageList b) = callsIn b
 
     anew : (a : ImageAct) (cs : List Call) → imageRenews a ≡ true → (imageNext f a (at cs) ≡ newOver f l .bytes) × (imageGives f a (at cs) ≡ [])
-    anew ImageNew cs e = (new-again l (at cs) sized (image cs), refl)
+    anew ImageNew cs e = (begins cs, refl)
     anew (ImageCall c) cs e = true≢false (sym e)
-    anew (ImagePages p) cs e = true≢false (sym e)
-    anew (ImageList b) cs e = true≢false (sym e)
 
     onward : (a : ImageAct) (cs : List Call) → imageRenews a ≡ false
         → (imageNext f a (at cs) ≡ after (images f l) (at cs) (calls a)) × (imageGives f a (at cs) ≡ vouchers (images f l) (at cs) (calls a))
     unfolding calls after vouchers
     onward ImageNew cs e = true≢false e
     onward (ImageCall c) cs e = (refl, refl)
-    onward (ImagePages p) cs e = (refl, refl)
-    onward (ImageList b) cs e = (image-left f lawful l (at cs) (image cs) b, image-kept f lawful l (at cs) (image cs) b)
 
     -- Over whatever lies in a slice of the image's length: the call that writes the image of `new`, and then any list of acts.
     pub images-demand : ClientDemand (images f l) (imageClient f l)
     images-demand = client-demand (images f l) (imageClient f l) (record { calls = calls; anew = anew; onward = onward }) (demand f lawful l sized)
+
+    -- ---- pages and lists too
+
+    any-calls : AnyAct → List Call
+    any-calls AnyNew = []
+    any-calls (AnyCall c) = c ∷ []
+    any-calls (AnyPages p) = byteCall p ∷ []
+    any-calls (AnyList b) = callsIn b
+
+    any-anew : (a : AnyAct) (cs : List Call) → anyRenews a ≡ true → (anyNext f a (at cs) ≡ newOver f l .bytes) × (anyGives f a (at cs) ≡ [])
+    any-anew AnyNew cs e = (begins cs, refl)
+    any-anew (AnyCall c) cs e = true≢false (sym e)
+    any-anew (AnyPages p) cs e = true≢false (sym e)
+    any-anew (AnyList b) cs e = true≢false (sym e)
+
+    any-onward : (a : AnyAct) (cs : List Call) → anyRenews a ≡ false
+        → (anyNext f a (at cs) ≡ after (images f l) (at cs) (any-calls a)) × (anyGives f a (at cs) ≡ vouchers (images f l) (at cs) (any-calls a))
+    unfolding any-calls after vouchers
+    any-onward AnyNew cs e = true≢false e
+    any-onward (AnyCall c) cs e = (refl, refl)
+    any-onward (AnyPages p) cs e = (refl, refl)
+    any-onward (AnyList b) cs e = (image-left f lawful l (at cs) (image cs) b, image-kept f lawful l (at cs) (image cs) b)
+
+    pub all-calls-demand : ClientDemand (images f l) (anyClient f l)
+    all-calls-demand = client-demand (images f l) (anyClient f l) (record { calls = any-calls; anew = any-anew; onward = any-onward }) (demand f lawful l sized)

@@ -1,4 +1,5 @@
 -- What shows the promises.
+pub mod Base
 pub mod Determined
 pub mod Clients
 pub mod Lent
@@ -6,3 +7,8 @@ pub mod Own
 pub mod Images
 pub mod Lines
 pub mod Program
+pub mod ImagePromises
+pub mod ScriptPromises
+pub mod PagePromises
+pub mod ListPromises
+pub mod JournalPromises

@@ -1,8 +1,15 @@
 -- What is promised of the calls together.
+pub mod Base
 pub mod Determined
 pub mod Clients
 pub mod Lent
 pub mod Own
 pub mod Images
+pub mod AllCalls
 pub mod Lines
 pub mod Program
+pub mod ImagePromises
+pub mod ScriptPromises
+pub mod PagePromises
+pub mod ListPromises
+pub mod JournalPromises

@@ -6,7 +6,7 @@ use native.Mathlib.Numerals.{add-one}
 use borrow.Author.Needs.{needs}
 use borrow.Author.Tests.{not-true, not-false}
 use lib.Dec.{lit≤}
-use Rattle.linked_lists.proofs.Check as check
+use Rattle.linked_lists.specs.Links as links
 use Rattle.pool_state.specs.Shown.{pool}
 use Rattle.check_records.specs.Records.{all, recordAt, used}
 use Rattle.check_records.specs.declared.Tally.the-variants.{Of}
@@ -15,7 +15,7 @@ use Rattle.check_records.proofs.tally_records.Statement.{statement}
 use Rattle.check_records.proofs.tally_records.Tie as tie
 
 abbrev Inv-loop : tie.InvT-loop
-Inv-loop start end enabled previous next lprev lnext count₀ i₀ count i = (i ≤ pool) × (all (recordAt start end enabled previous next lprev lnext) i ≡ true) × (count ≡ check.count (used enabled) i)
+Inv-loop start end enabled previous next lprev lnext count₀ i₀ count i = (i ≤ pool) × (all (recordAt start end enabled previous next lprev lnext) i ≡ true) × (count ≡ links.count (used enabled) i)
 
 abbrev μ-loop : tie.MeasureT-loop
 μ-loop start end enabled previous next lprev lnext count₀ i₀ count i = pool - i
@@ -95,7 +95,7 @@ loop-again c =
     let on = used (at-start .args .enabled .now) in (
       omega arith,
       rw (add-one (l .i)) (all-more _ (l .i) (l .inv .1) (sym (at-record-ok .record-ok .ensures) ∙ not-false (at-record-ok .record-ok .result) (c .before .if1 .left))),
-      c .one-more-if .ensures ∙ ap (λ (m : ℕ). cond (on (l .i)) (suc m) m) (l .inv .2) ∙ sym (count-more on (l .i)) ∙ ap (check.count on) (sym (add-one (l .i))),
+      c .one-more-if .ensures ∙ ap (λ (m : ℕ). cond (on (l .i)) (suc m) m) (l .inv .2) ∙ sym (count-more on (l .i)) ∙ ap (links.count on) (sym (add-one (l .i))),
     )
 
 returns-2 : tie.Need-returns-2 Inv-loop μ-loop
