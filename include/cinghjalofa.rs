@@ -1,5 +1,5 @@
 // The memory-range allocator over a byte image that the caller lends, and over a state of the caller's own: the calls for Rust,
-// `no_std`, edition 2021.
+// `no_std`, in any edition from 2018 on.
 // Take the file in as a module, by `#[path = ".."] mod cinghjalofa;` or `mod cinghjalofa { include!(".."); }`, and link
 // with the static library.
 //
@@ -9,7 +9,7 @@
 //   and lent again at another address; the address may have any alignment. `new` makes the first image.
 //
 // The answer
-//   0 or more: accepted. It is the address for `allocate` and `allocate_pages`, and 0 for the others.
+//   0 or more: accepted. It is the address for `allocate` and `allocate_pages`, the number of ranges for `listing`, and 0 for the others.
 //   A list of calls has an answer of its own, and one for each of its calls.
 //   Below 0: refused, for the first reason that applies in the order in which each function lists them. A refusal changes
 //   no byte of the image. No call writes outside the image and, of a list, the places of its calls.
@@ -78,10 +78,21 @@ pub const UNKNOWN_CALL: i64 = 3;
 /// or of one with a length that is not its call's.
 pub const WRONG_LENGTH: i64 = 4;
 
+// From edition 2024 on a block of foreign functions is `unsafe`, which older compilers do not know; and from then on `_` is an
+// expression.
+macro_rules! foreign {
+    ($edition:expr; $($functions:tt)*) => {
+        unsafe extern "C" { $($functions)* }
+    };
+    (_; $($functions:tt)*) => {
+        extern "C" { $($functions)* }
+    };
+}
+
 // What a caller of these owes: `image` points to `len` bytes that may be read and written, and that nobody else reads or
 // writes during the call. With `len` 0 it is not followed and may be null. So of `calls`, whose numbers are only read, and of
 // `answers`; each is aligned as its numbers are, and the three do not overlap.
-extern "C" {
+foreign! { _;
     pub fn cinghjalofa_new(image: *mut u8, len: usize) -> i64;
     pub fn cinghjalofa_allocate(image: *mut u8, len: usize, size: u64, order: u64) -> i64;
     pub fn cinghjalofa_reserve_memory(image: *mut u8, len: usize, start: u64, size: u64, order: u64) -> i64;
@@ -95,6 +106,15 @@ extern "C" {
         words: usize,
         answers: *mut i64,
         places: usize,
+    ) -> i64;
+    pub fn cinghjalofa_total(image: *const u8, len: usize, total: *mut u64) -> i64;
+    pub fn cinghjalofa_listing(
+        image: *const u8,
+        len: usize,
+        starts: *mut u64,
+        starts_len: usize,
+        lasts: *mut u64,
+        lasts_len: usize,
     ) -> i64;
     pub fn cinghjalofa_journal_begin(journal: *mut u8, len: usize) -> i64;
     pub fn cinghjalofa_journal_write(
@@ -113,7 +133,7 @@ extern "C" {
 
 // The ten fields of a state of one's own, lent one by one: a total, a first record, LISTS heads, and RECORDS of each of the others.
 // A byte of `enabled` is 0 or 1. `Own` keeps them.
-extern "C" {
+foreign! { _;
     fn cinghjalofa_fields_are_sound(
         total: u64,
         first: u16,
@@ -202,6 +222,35 @@ extern "C" {
         image: *mut u8,
         len: usize,
     ) -> i64;
+    fn cinghjalofa_fields_total(
+        total: u64,
+        first: u16,
+        heads: *const u16,
+        start: *const u64,
+        end: *const u64,
+        enabled: *const bool,
+        previous: *const u16,
+        next: *const u16,
+        list_prev: *const u16,
+        list_next: *const u16,
+        figure: *mut u64,
+    ) -> i64;
+    fn cinghjalofa_fields_listing(
+        total: u64,
+        first: u16,
+        heads: *const u16,
+        start: *const u64,
+        end: *const u64,
+        enabled: *const bool,
+        previous: *const u16,
+        next: *const u16,
+        list_prev: *const u16,
+        list_next: *const u16,
+        starts: *mut u64,
+        starts_len: usize,
+        lasts: *mut u64,
+        lasts_len: usize,
+    ) -> i64;
 }
 
 /// Writes the image of the empty allocator over whatever is there, and answers 0.
@@ -273,6 +322,21 @@ pub fn free_pages(image: &mut [u8], address: u64, count: u64) -> i64 {
 pub fn batch(image: &mut [u8], calls: &[u64], answers: &mut [i64]) -> i64 {
     let (len, words, places) = (image.len(), calls.len(), answers.len());
     unsafe { cinghjalofa_batch(image.as_mut_ptr(), len, calls.as_ptr(), words, answers.as_mut_ptr(), places) }
+}
+
+/// Writes the number of free bytes to `figure`, and answers 0. (It may be 2^63, which no answer is.)
+/// - -2: the slice is not `IMAGE_BYTES` long, or the image is not sound; the figure stays as it was
+pub fn total(image: &[u8], figure: &mut u64) -> i64 {
+    unsafe { cinghjalofa_total(image.as_ptr(), image.len(), figure) }
+}
+
+/// Writes the first byte of each free range to `starts` and the last one to `lasts`, by address, and answers the number of
+/// ranges. Places past them keep their contents; `RECORDS` places are always enough.
+/// - -2: the slice is not `IMAGE_BYTES` long, or the image is not sound
+/// - -4: one of the slices has fewer places than there are ranges; nothing is written
+pub fn listing(image: &[u8], starts: &mut [u64], lasts: &mut [u64]) -> i64 {
+    let (len, places, last_places) = (image.len(), starts.len(), lasts.len());
+    unsafe { cinghjalofa_listing(image.as_ptr(), len, starts.as_mut_ptr(), places, lasts.as_mut_ptr(), last_places) }
 }
 
 /// Writes the version byte of a journal. Answers 1, the place of the first block.
@@ -424,20 +488,29 @@ impl Own {
         unsafe { fields!(cinghjalofa_fields_export(self, image.as_mut_ptr(), image.len())) }
     }
 
-    /// The stored total.
-    pub fn total(&self) -> u64 {
+    /// Writes the number of free bytes, and answers 0; -2, and the figure as it was, where the fields are no sound state.
+    pub fn total(&self, figure: &mut u64) -> i64 {
+        if !self.has_bits() {
+            return INVALID_ENTRY;
+        }
+        unsafe { fields!(cinghjalofa_fields_total(self, figure)) }
+    }
+
+    /// The stored total, which is the number of free bytes where the fields are a sound state. Nothing is checked.
+    #[inline]
+    pub fn total_unchecked(&self) -> u64 {
         self.total
     }
 
-    /// The record of the first free range by address; `NO_RECORD` where there is none.
-    pub fn first(&self) -> u16 {
-        self.first
-    }
-
-    /// First and last byte of a record, and the record of the next range by address.
-    pub fn record(&self, number: u16) -> Option<(u64, u64, u16)> {
-        let at = usize::from(number);
-        Some((*self.start.get(at)?, *self.end.get(at)?, *self.next.get(at)?))
+    /// The free ranges by address, as `listing` writes them; -2, and nothing written, where the fields are no sound state.
+    pub fn listing(&self, starts: &mut [u64], lasts: &mut [u64]) -> i64 {
+        if !self.has_bits() {
+            return INVALID_ENTRY;
+        }
+        let (places, last_places) = (starts.len(), lasts.len());
+        unsafe {
+            fields!(cinghjalofa_fields_listing(self, starts.as_mut_ptr(), places, lasts.as_mut_ptr(), last_places))
+        }
     }
 
     /// Each byte of `enabled` is 0 or 1, as the library takes it for granted.

@@ -1,130 +1,197 @@
-//! Finds the archive of the proved calls for the target, makes it where that is possible, and links it.
+//! Finds the archive of the proved calls for the target, and links it. No command is run.
 
 use std::env;
 use std::fs;
-use std::io::{self, BufRead, BufReader, Write};
 use std::path::{Path, PathBuf};
-use std::process::{exit, Command, Stdio};
+use std::process::exit;
+use std::time::Duration;
 
-const VARIABLE: &str = "CINGHJALOFA_ARCHIVE";
-/// Makes the archives of all targets in the project, one command at a time.
-const COMMAND: &str = "tools/archives";
+/// Names an archive in place of those that are looked for.
+const ARCHIVE: &str = "CINGHJALOFA_ARCHIVE";
+/// Names a kind of machine in place of the target's.
+const KIND: &str = "CINGHJALOFA_KIND";
+/// The archive's name in the package and in the project, below the folder of its kind.
+const NAME: &str = "libcinghjalofa.a";
 
-/// Where a target's archive lies in the project, and its ELF machine number.
-struct Target {
-    archive: &'static str,
-    machine: u16,
+/// A kind of machine that there is an archive for: its name, and what the first object of the archive begins with.
+struct Kind {
+    name: &'static str,
+    object: Object,
 }
 
-const X86_64: Target = Target { archive: "target/staticlib/libc_calls.a", machine: 62 };
-const AARCH64: Target = Target { archive: "target/aarch64/libc_calls.a", machine: 183 };
+#[derive(PartialEq)]
+enum Object {
+    Elf(u16),
+    Coff(u16),
+    Other,
+}
+
+const KINDS: [Kind; 4] = [
+    Kind { name: "x86_64", object: Object::Elf(62) },
+    Kind { name: "aarch64", object: Object::Elf(183) },
+    Kind { name: "aarch64-mmu", object: Object::Elf(183) },
+    Kind { name: "aarch64-uefi", object: Object::Coff(0xaa64) },
+];
 
 fn main() {
-    println!("cargo:rerun-if-env-changed={VARIABLE}");
-    let target = target();
-    let archive = match env::var_os(VARIABLE) {
-        Some(named) => existing(PathBuf::from(named)),
-        None => of_the_project(&target),
-    };
-    println!("cargo:rerun-if-changed={}", archive.display());
-    check_machine(&archive, &target);
-    link(&archive);
-}
-
-fn target() -> Target {
-    match env::var("CARGO_CFG_TARGET_ARCH").as_deref() {
-        Ok("x86_64") => X86_64,
-        Ok("aarch64") => AARCH64,
-        other => fail(&format!("there is no archive for {other:?}, only for x86_64 and aarch64")),
-    }
-}
-
-fn existing(archive: PathBuf) -> PathBuf {
-    if archive.is_file() {
-        return archive;
-    }
-    fail(&format!("{VARIABLE} names {}, which is no file", archive.display()))
-}
-
-/// The archive in the project that this crate stands in; made first where it is missing and the kit is there.
-fn of_the_project(target: &Target) -> PathBuf {
-    let project = Path::new(env!("CARGO_MANIFEST_DIR")).join("../..");
-    let archive = project.join(target.archive);
-    if !archive.is_file() {
-        make(&project, &archive);
-    }
-    archive
-}
-
-fn make(project: &Path, archive: &Path) {
-    let has_kit = Command::new("rt").arg("version").stdout(Stdio::null()).status().is_ok();
-    if !has_kit {
-        fail(&format!(
-            "the archive of the proved calls is missing, and so is the Rattle kit that makes it.\n\
-             looked for: {}\n\
-             either: install the kit (its START-HERE.md says how), so that `rt` is on the PATH, and build again (or run `{COMMAND}` in the project)\n\
-             or:     set {VARIABLE} to an archive that was made elsewhere",
-            archive.display()
-        ));
-    }
-    tell_terminal(&format!("making the archive by `{COMMAND}`"));
-    match said_by(Command::new(project.join(COMMAND))) {
-        Ok((true, _)) if archive.is_file() => {}
-        Ok((_, said)) => fail(&format!("`{COMMAND}` did not make {}; it said:\n{said}", archive.display())),
-        Err(problem) => fail(&format!("`{COMMAND}` could not be started: {problem}")),
-    }
-}
-
-/// Whether a command succeeds, and what it says meanwhile on standard error: the crate that is proved, whom it waits for.
-/// That goes to the terminal at once; cargo would take it for its own.
-fn said_by(mut command: Command) -> io::Result<(bool, String)> {
-    let mut running = command.stdin(Stdio::null()).stdout(Stdio::null()).stderr(Stdio::piped()).spawn()?;
-    let mut said = String::new();
-    if let Some(words) = running.stderr.take() {
-        for line in BufReader::new(words).lines() {
-            let line = line?;
-            tell_terminal(&line);
-            said += &line;
-            said.push('\n');
+    println!("cargo:rerun-if-env-changed={}", ARCHIVE);
+    println!("cargo:rerun-if-env-changed={}", KIND);
+    println!("cargo:rerun-if-changed=build.rs");
+    tell_of_the_compiler();
+    let kind = kind();
+    match archive(&kind) {
+        Some(archive) => {
+            println!("cargo:rerun-if-changed={}", archive.display());
+            check_object(&archive, &kind);
+            link(&archive);
         }
+        None => do_without(&kind),
     }
-    Ok((running.wait()?.success(), said))
 }
 
-/// Cargo keeps what a build says to itself until the end; whoever waits at a terminal is told there.
-fn tell_terminal(what: &str) {
-    if let Ok(mut terminal) = fs::OpenOptions::new().write(true).open("/dev/tty") {
-        let _ = writeln!(terminal, "cinghjalofa: {what}");
+/// The kind of machine that the target is, or the one that is named.
+fn kind() -> Kind {
+    let wanted = env::var(KIND).unwrap_or_else(|_| of_the_target().to_string());
+    match KINDS.into_iter().find(|kind| kind.name == wanted) {
+        Some(kind) => kind,
+        None => fail(&format!("{} names {:?}, and there is {}", KIND, wanted, KINDS.map(|kind| kind.name).join(", "))),
     }
+}
+
+fn of_the_target() -> &'static str {
+    let arch = target("ARCH");
+    let os = target("OS");
+    if target("POINTER_WIDTH") != "64" || target("ENDIAN") != "little" {
+        fail("addresses have 64 bits here, and bytes stand with the lowest first: there is no archive for this target");
+    }
+    match (arch.as_str(), os.as_str()) {
+        ("aarch64", "uefi") => "aarch64-uefi",
+        (_, "uefi" | "windows" | "cygwin") => fail(&format!(
+            "the archive for {} is ELF, and {} links COFF; only for aarch64-unknown-uefi there is one of COFF",
+            arch, os
+        )),
+        (_, "macos" | "ios" | "tvos" | "watchos" | "visionos") => {
+            fail(&format!("the archives are ELF, and {} links Mach-O: there is none for it", os))
+        }
+        ("x86_64", _) => "x86_64",
+        ("aarch64", "none") => "aarch64",
+        ("aarch64", _) => "aarch64-mmu",
+        _ => fail(&format!("there is no archive for {}, only for x86_64 and aarch64", arch)),
+    }
+}
+
+fn target(what: &str) -> String {
+    env::var(format!("CARGO_CFG_TARGET_{}", what)).unwrap_or_default()
+}
+
+/// The archive that is named; or the one in the package; or the one in the project that this crate stands in.
+fn archive(kind: &Kind) -> Option<PathBuf> {
+    if let Some(named) = env::var_os(ARCHIVE) {
+        let named = PathBuf::from(named);
+        if !named.is_file() {
+            fail(&format!("{} names {}, which is no file", ARCHIVE, named.display()));
+        }
+        return Some(named);
+    }
+    places(kind).into_iter().find(|place| place.is_file())
+}
+
+fn places(kind: &Kind) -> [PathBuf; 2] {
+    let package = PathBuf::from(env::var_os("CARGO_MANIFEST_DIR").unwrap_or_default());
+    ["archives", "../../target/library"].map(|folder| package.join(folder).join(kind.name).join(NAME))
 }
 
 /// A foreign archive would only be noticed by the linker, in words about missing symbols.
-fn check_machine(archive: &Path, target: &Target) {
-    let bytes = fs::read(archive).unwrap_or_else(|problem| fail(&format!("{}: {problem}", archive.display())));
-    let object = bytes.windows(20).find(|window| window.starts_with(b"\x7fELF"));
-    let machine = object.map(|header| u16::from_le_bytes([header[18], header[19]]));
-    if machine != Some(target.machine) {
-        let found = machine.map_or("no machine".to_string(), |number| format!("ELF machine {number}"));
-        fail(&format!(
-            "{} holds code for {found}, and the target's is {} (62: x86-64, 183: aarch64).\n\
-             `{COMMAND}` makes the right one",
-            archive.display(),
-            target.machine
-        ));
+fn check_object(archive: &Path, kind: &Kind) {
+    let bytes = fs::read(archive).unwrap_or_else(|problem| fail(&format!("{}: {}", archive.display(), problem)));
+    if first_object(&bytes) != kind.object {
+        fail(&format!("{} holds no code for {}: {} or {} names another", archive.display(), kind.name, ARCHIVE, KIND));
     }
 }
 
-/// Links a copy, so that the archive's name is free.
+/// What the first member of an archive is that is no table: `/` and `//` are. A member has 60 bytes before it: a name of 16,
+/// and its size in the ten from the 48th on.
+fn first_object(archive: &[u8]) -> Object {
+    let mut rest = archive.get(8..).unwrap_or_default();
+    while rest.len() > 60 {
+        let (header, members) = rest.split_at(60);
+        let digits = String::from_utf8_lossy(&header[48..58]);
+        let size: usize = digits.trim().parse().unwrap_or(members.len());
+        if header[0] != b'/' || header[1].is_ascii_digit() {
+            return object(members);
+        }
+        rest = members.get(size.saturating_add(size % 2)..).unwrap_or_default();
+    }
+    Object::Other
+}
+
+fn object(bytes: &[u8]) -> Object {
+    match bytes {
+        [0x7f, b'E', b'L', b'F', ..] if bytes.len() > 20 => Object::Elf(u16::from_le_bytes([bytes[18], bytes[19]])),
+        [low, high, ..] => Object::Coff(u16::from_le_bytes([*low, *high])),
+        _ => Object::Other,
+    }
+}
+
+/// Links a copy, under both names that a linker may look for.
 fn link(archive: &Path) {
-    let out = env::var_os("OUT_DIR").map(PathBuf::from).unwrap_or_else(|| fail("cargo has set no OUT_DIR"));
-    if let Err(problem) = fs::copy(archive, out.join("libcinghjalofa_calls.a")) {
-        fail(&format!("{} could not be copied: {problem}", archive.display()));
+    let out = PathBuf::from(env::var_os("OUT_DIR").unwrap_or_else(|| fail("cargo has set no OUT_DIR")));
+    for copy in ["libcinghjalofa_calls.a", "cinghjalofa_calls.lib"] {
+        let copy = out.join(copy);
+        let _ = fs::remove_file(&copy); // it may be one that cannot be written over
+        if let Err(problem) = fs::copy(archive, &copy) {
+            fail(&format!("{} could not be copied: {}", archive.display(), problem));
+        }
     }
     println!("cargo:rustc-link-search=native={}", out.display());
     println!("cargo:rustc-link-lib=static=cinghjalofa_calls");
 }
 
+/// `cargo check` and `cargo doc` need no archive. What does is stopped by rustc, which finds none of this name.
+fn do_without(kind: &Kind) {
+    let [packed, made] = places(kind);
+    println!(
+        "cargo:warning=the archive of the proved calls for {} is missing: {} or {}.",
+        kind.name,
+        packed.display(),
+        made.display()
+    );
+    println!("cargo:warning=Take the packed crate, which has it; or run `tools/archives` in the project, with the Rattle kit; or set {} to one.", ARCHIVE);
+    println!("cargo:rustc-link-lib=static=cinghjalofa_calls");
+}
+
+/// `core::error` has been there since Rust 1.81, as `Duration::abs_diff` has: before, the method of this name is the trait's.
+fn tell_of_the_compiler() {
+    #[allow(dead_code)] // of one of the two there is no use
+    trait Older: Sized {
+        fn abs_diff(self, _: Self) -> Before {
+            Before
+        }
+    }
+    impl Older for Duration {}
+    #[allow(dead_code)]
+    struct Before;
+    trait Tells {
+        const HAS_CORE_ERROR: bool;
+        fn has_core_error(&self) -> bool {
+            Self::HAS_CORE_ERROR
+        }
+    }
+    impl Tells for Before {
+        const HAS_CORE_ERROR: bool = false;
+    }
+    impl Tells for Duration {
+        const HAS_CORE_ERROR: bool = true;
+    }
+    #[allow(unstable_name_collisions)]
+    let difference = Duration::ZERO.abs_diff(Duration::ZERO);
+    if difference.has_core_error() {
+        println!("cargo:rustc-check-cfg=cfg(cinghjalofa_core_error)");
+        println!("cargo:rustc-cfg=cinghjalofa_core_error");
+    }
+}
+
 fn fail(what: &str) -> ! {
-    eprintln!("cinghjalofa: {what}");
+    eprintln!("cinghjalofa: {}", what);
     exit(1)
 }

@@ -4,7 +4,7 @@ use crate::MemoryError;
 
 // The declarations, behind safe functions over slices.
 #[allow(dead_code)]
-#[path = "../../../include/cinghjalofa.rs"]
+#[path = "library.rs"]
 mod library;
 
 pub(crate) use library::{audit, journal_begin, journal_read, journal_write};
@@ -38,6 +38,25 @@ pub(crate) fn free_pages(image: &mut [u8], address: usize, count: usize) -> Resu
 
 pub(crate) fn batch(image: &mut [u8], calls: &[u64], answers: &mut [i64]) -> i64 {
     library::batch(image, calls, answers)
+}
+
+pub(crate) fn total(image: &[u8]) -> usize {
+    figure(|figure| library::total(image, figure))
+}
+
+pub(crate) fn is_image(image: &[u8]) -> bool {
+    library::total(image, &mut 0) >= 0
+}
+
+pub(crate) fn listing(image: &[u8], starts: &mut [u64], lasts: &mut [u64]) -> i64 {
+    library::listing(image, starts, lasts)
+}
+
+/// The figure that a call writes; 0 where it is refused.
+pub(crate) fn figure(write: impl FnOnce(&mut u64) -> i64) -> usize {
+    let mut figure = 0;
+    write(&mut figure);
+    figure as usize
 }
 
 /// An address, or minus the refusal number. The library gives no other number; one would mean another library, and

@@ -32,7 +32,7 @@ use crate::MemoryError;
 pub const LONGEST_BLOCK: usize = calls::LONGEST_BLOCK;
 
 /// A call, and the answer that it got as one signed number: the address or 0, or minus the number of the refusal.
-#[derive(Clone, Copy, PartialEq, Eq, Debug)]
+#[derive(Clone, Copy, PartialEq, Eq, Hash, Debug)]
 pub struct Entry {
     /// The call.
     pub call: Call,
@@ -41,7 +41,7 @@ pub struct Entry {
 }
 
 /// What an audit reports. An index counts blocks from 0.
-#[derive(Clone, Copy, PartialEq, Eq, Debug)]
+#[derive(Clone, Copy, PartialEq, Eq, Hash, Debug)]
 pub enum Verdict {
     /// Every answer is the one of the replay.
     Agrees {

@@ -6,56 +6,30 @@
 compile_error!("cinghjalofa: addresses have 64 bits");
 
 mod calls;
-mod image;
+mod error;
 pub mod journal;
 mod list;
 mod owned;
+mod ranges;
 mod show;
 
-pub use image::{FreeRange, FreeRanges};
+pub use error::{MemoryError, UnknownNumber};
 pub use list::{Call, CallAnswer};
 pub use owned::{MemoryAllocator, UncheckedAllocator};
+pub use ranges::{FreeRange, FreeRanges};
 
-use image::Image;
+use core::alloc::Layout;
 
 /// The length of an image.
 pub const IMAGE_BYTES: usize = calls::IMAGE_BYTES;
 
+/// The free ranges that there can be: each has a record.
+pub const RECORDS: usize = calls::RECORDS;
+
 /// The bytes of a page.
 pub const PAGE_BYTES: usize = calls::PAGE_BYTES as usize;
 
-/// Why a call was refused. A refused call has changed nothing.
-#[derive(Clone, Copy, PartialEq, Eq, Debug)]
-pub enum MemoryError {
-    /// A record is needed and all 64 are in use.
-    NoEntry,
-    /// The bytes are no image of a sound allocator.
-    InvalidEntry,
-    /// Too few bytes are free, or no free range fits.
-    NoMemory,
-    /// Size or count 0, an order above 63, a bad or overlapping range, or a slice that is too short for a listing or for answers.
-    InvalidRequest,
-}
-
-impl MemoryError {
-    /// The number that the documents and the C calls give it, 1 to 4. (`as` counts from 0, as it does of the module's.)
-    ///
-    /// ```
-    /// use cinghjalofa::MemoryError;
-    ///
-    /// assert_eq!(MemoryError::NoEntry.number(), 1);
-    /// assert_eq!(MemoryError::InvalidRequest.number(), 4);
-    /// assert_eq!(MemoryError::NoMemory.to_string(), "too few bytes are free, or no free range fits");
-    /// ```
-    pub const fn number(self) -> u8 {
-        match self {
-            MemoryError::NoEntry => 1,
-            MemoryError::InvalidEntry => 2,
-            MemoryError::NoMemory => 3,
-            MemoryError::InvalidRequest => 4,
-        }
-    }
-}
+pub(crate) type Image = [u8; IMAGE_BYTES];
 
 /// The allocator over an image that somebody else keeps, in a page shared with a boot loader for instance.
 ///
@@ -78,8 +52,7 @@ pub struct LentAllocator<'a> {
     image: &'a mut Image,
 }
 
-/// Whether the bytes are the image of a sound allocator: what the proved check says, asked by a call that is refused
-/// either way. It works on a copy of the bytes.
+/// Whether the bytes are the image of a sound allocator: only such an image has a total.
 ///
 /// ```
 /// let image = cinghjalofa::MemoryAllocator::new().image();
@@ -87,11 +60,7 @@ pub struct LentAllocator<'a> {
 /// assert!(!cinghjalofa::is_sound(&image[1..]));
 /// ```
 pub fn is_sound(image: &[u8]) -> bool {
-    match Image::try_from(image) {
-        // of a sound state the size 0 is refused, of any other the state
-        Ok(mut copy) => calls::allocate(&mut copy, 0, 0) == Err(MemoryError::InvalidRequest),
-        Err(_) => false,
-    }
+    calls::is_image(image)
 }
 
 impl<'a> LentAllocator<'a> {
@@ -122,6 +91,11 @@ impl<'a> LentAllocator<'a> {
         calls::allocate(self.image, size, align_order)
     }
 
+    /// See [`MemoryAllocator::allocate_layout`].
+    pub fn allocate_layout(&mut self, layout: Layout) -> Result<usize, MemoryError> {
+        self.allocate(layout.size(), owned::order_of(layout))
+    }
+
     /// See [`MemoryAllocator::reserve_memory`].
     pub fn reserve_memory(&mut self, start_address: usize, size: usize, align_order: usize) -> Result<(), MemoryError> {
         calls::reserve_memory(self.image, start_address, size, align_order)
@@ -149,21 +123,31 @@ impl<'a> LentAllocator<'a> {
 
     /// See [`MemoryAllocator::total`].
     pub fn total(&self) -> usize {
-        image::total(self.image)
+        calls::total(self.image)
     }
 
     /// See [`MemoryAllocator::ranges`].
-    pub fn ranges(&self) -> FreeRanges<'_> {
-        FreeRanges::of(self.image)
+    pub fn ranges(&self) -> FreeRanges {
+        FreeRanges::of(|starts, lasts| calls::listing(self.image, starts, lasts))
     }
 
     /// See [`MemoryAllocator::listing`].
     pub fn listing(&self, starts: &mut [usize], lasts: &mut [usize]) -> Result<usize, MemoryError> {
-        image::listing(self.ranges(), starts, lasts)
+        ranges::listing(starts, lasts, |starts, lasts| calls::listing(self.image, starts, lasts))
     }
 
     /// See [`MemoryAllocator::is_sound`].
     pub fn is_sound(&self) -> bool {
         is_sound(self.image)
+    }
+}
+
+/// The free ranges by address.
+impl IntoIterator for &LentAllocator<'_> {
+    type Item = FreeRange;
+    type IntoIter = FreeRanges;
+
+    fn into_iter(self) -> FreeRanges {
+        self.ranges()
     }
 }

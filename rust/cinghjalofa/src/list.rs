@@ -4,12 +4,12 @@ use crate::calls;
 use crate::MemoryError;
 
 /// One call of a list for [`MemoryAllocator::serve`](crate::MemoryAllocator::serve).
-#[derive(Clone, Copy, PartialEq, Eq, Debug)]
+#[derive(Clone, Copy, PartialEq, Eq, Hash)]
 #[repr(transparent)]
 pub struct Call([u64; calls::CALL_WORDS]);
 
 /// The answer to one call of a list. The default stands for no answer yet and reads as `Ok(0)`: look first at what `serve` answers.
-#[derive(Clone, Copy, PartialEq, Eq, Debug, Default)]
+#[derive(Clone, Copy, PartialEq, Eq, Hash, Default)]
 #[repr(transparent)]
 pub struct CallAnswer(i64);
 
@@ -37,6 +37,12 @@ impl Call {
 
     pub(crate) const fn words(&self) -> &[u64; calls::CALL_WORDS] {
         &self.0
+    }
+}
+
+impl From<CallAnswer> for Result<usize, MemoryError> {
+    fn from(answer: CallAnswer) -> Self {
+        answer.result()
     }
 }
 

@@ -1,8 +1,10 @@
 //! The two allocators that own their state: one asks at each call whether it is sound, one does not.
 
-use crate::calls::{result_of, Own, ALLOCATE, ALLOCATE_PAGES, FREE, FREE_PAGES, RESERVE};
-use crate::image::{self, FreeRanges};
+use core::alloc::Layout;
+
+use crate::calls::{figure, result_of, Own, ALLOCATE, ALLOCATE_PAGES, FREE, FREE_PAGES, RESERVE};
 use crate::list::{self, Call, CallAnswer};
+use crate::ranges::{self, FreeRange, FreeRanges};
 use crate::{MemoryError, IMAGE_BYTES};
 
 /// The allocator, with its state inside: what MiniVisor's `MemoryAllocator` is replaced by.
@@ -73,6 +75,23 @@ impl MemoryAllocator {
         self.call(ALLOCATE, size, align_order, 0)
     }
 
+    /// Takes as many bytes as a value of this layout has, at a multiple of its alignment. A layout of size 0 is `InvalidRequest`. They
+    /// are given back by [`MemoryAllocator::free`], with the layout's size.
+    ///
+    /// ```
+    /// use core::alloc::Layout;
+    ///
+    /// let mut memory = cinghjalofa::MemoryAllocator::new();
+    /// memory.free(0x10008, 0x10000).unwrap();
+    /// let table = Layout::from_size_align(0x1000, 0x1000).unwrap();
+    /// assert_eq!(memory.allocate_layout(table), Ok(0x11000));
+    /// assert_eq!(memory.allocate_layout(Layout::new::<u32>()), Ok(0x10008));
+    /// ```
+    #[inline]
+    pub fn allocate_layout(&mut self, layout: Layout) -> Result<usize, MemoryError> {
+        self.allocate(layout.size(), order_of(layout))
+    }
+
     /// Takes these bytes, widened to multiples of 2^`align_order`, out of the free range that holds them all.
     #[inline]
     pub fn reserve_memory(&mut self, start_address: usize, size: usize, align_order: usize) -> Result<(), MemoryError> {
@@ -126,12 +145,12 @@ impl MemoryAllocator {
         list::serve(list, answers, |words, places| self.own.batch(words, places))
     }
 
-    /// The number of free bytes.
+    /// The number of free bytes. It is 0 of a state that is not sound, too: [`MemoryAllocator::is_sound`] tells.
     pub fn total(&self) -> usize {
-        self.own.total() as usize
+        figure(|figure| self.own.total(figure))
     }
 
-    /// The free ranges by address.
+    /// The free ranges by address, as they are now; a `for` over `&memory` goes through them too.
     ///
     /// ```
     /// use cinghjalofa::{FreeRange, MemoryAllocator};
@@ -141,23 +160,27 @@ impl MemoryAllocator {
     /// memory.free(0x2000, 0x1000).unwrap();
     /// let ranges = [FreeRange { start: 0x2000, last: 0x2fff }, FreeRange { start: 0x8000, last: 0x8fff }];
     /// assert!(memory.ranges().eq(ranges));
+    /// assert_eq!(memory.ranges().len(), 2);
+    /// assert_eq!(memory.ranges().next_back(), Some(ranges[1])); // the highest
+    /// assert_eq!(format!("{:?}", memory.ranges()), "[0x2000..=0x2fff, 0x8000..=0x8fff]");
     /// ```
-    pub fn ranges(&self) -> FreeRanges<'_> {
-        FreeRanges::of_own(&self.own)
+    pub fn ranges(&self) -> FreeRanges {
+        FreeRanges::of(|starts, lasts| self.own.listing(starts, lasts))
     }
 
     /// Writes first and last bytes of the free ranges, by address, to two slices and returns their number.
-    /// `InvalidRequest`, and nothing written, where a slice is too short; 64 places are always enough.
+    /// `InvalidRequest`, and nothing written, where a slice is too short; [`RECORDS`](crate::RECORDS) places are always enough.
+    /// `InvalidEntry` where the state is not sound.
     ///
     /// ```
     /// let mut memory = cinghjalofa::MemoryAllocator::new();
     /// memory.free(0x8000, 0x1000).unwrap();
-    /// let (mut starts, mut lasts) = ([0; 64], [0; 64]);
+    /// let (mut starts, mut lasts) = ([0; cinghjalofa::RECORDS], [0; cinghjalofa::RECORDS]);
     /// assert_eq!(memory.listing(&mut starts, &mut lasts), Ok(1));
     /// assert_eq!((starts[0], lasts[0]), (0x8000, 0x8fff));
     /// ```
     pub fn listing(&self, starts: &mut [usize], lasts: &mut [usize]) -> Result<usize, MemoryError> {
-        image::listing(self.ranges(), starts, lasts)
+        ranges::listing(starts, lasts, |starts, lasts| self.own.listing(starts, lasts))
     }
 
     /// The proved check, run again: false only where something wrote over the allocator's memory.
@@ -197,6 +220,12 @@ impl UncheckedAllocator {
         self.call(ALLOCATE, size, align_order, 0)
     }
 
+    /// See [`MemoryAllocator::allocate_layout`].
+    #[inline]
+    pub fn allocate_layout(&mut self, layout: Layout) -> Result<usize, MemoryError> {
+        self.allocate(layout.size(), order_of(layout))
+    }
+
     /// See [`MemoryAllocator::reserve_memory`].
     #[inline]
     pub fn reserve_memory(&mut self, start_address: usize, size: usize, align_order: usize) -> Result<(), MemoryError> {
@@ -226,19 +255,20 @@ impl UncheckedAllocator {
         list::serve(list, answers, |words, places| self.own.batch(words, places))
     }
 
-    /// See [`MemoryAllocator::total`].
+    /// See [`MemoryAllocator::total`]; here the state is not checked.
+    #[inline]
     pub fn total(&self) -> usize {
-        self.own.total() as usize
+        self.own.total_unchecked() as usize
     }
 
     /// See [`MemoryAllocator::ranges`].
-    pub fn ranges(&self) -> FreeRanges<'_> {
-        FreeRanges::of_own(&self.own)
+    pub fn ranges(&self) -> FreeRanges {
+        FreeRanges::of(|starts, lasts| self.own.listing(starts, lasts))
     }
 
     /// See [`MemoryAllocator::listing`].
     pub fn listing(&self, starts: &mut [usize], lasts: &mut [usize]) -> Result<usize, MemoryError> {
-        image::listing(self.ranges(), starts, lasts)
+        ranges::listing(starts, lasts, |starts, lasts| self.own.listing(starts, lasts))
     }
 
     /// See [`MemoryAllocator::is_sound`].
@@ -262,4 +292,30 @@ impl Default for UncheckedAllocator {
     fn default() -> Self {
         Self::new()
     }
+}
+
+/// The free ranges by address.
+impl IntoIterator for &MemoryAllocator {
+    type Item = FreeRange;
+    type IntoIter = FreeRanges;
+
+    fn into_iter(self) -> FreeRanges {
+        self.ranges()
+    }
+}
+
+/// The free ranges by address.
+impl IntoIterator for &UncheckedAllocator {
+    type Item = FreeRange;
+    type IntoIter = FreeRanges;
+
+    fn into_iter(self) -> FreeRanges {
+        self.ranges()
+    }
+}
+
+/// The order of a layout's alignment, which is a power of two.
+#[inline]
+pub(crate) fn order_of(layout: Layout) -> usize {
+    layout.align().trailing_zeros() as usize
 }

@@ -1,19 +1,8 @@
-//! What is printed of errors and allocators.
+//! What is printed of calls and allocators: addresses and sizes in hexadecimal.
 
 use core::fmt;
 
-use crate::{FreeRanges, LentAllocator, MemoryAllocator, MemoryError, UncheckedAllocator};
-
-impl fmt::Display for MemoryError {
-    fn fmt(&self, f: &mut fmt::Formatter<'_>) -> fmt::Result {
-        f.write_str(match self {
-            MemoryError::NoEntry => "a record is needed and none is unused",
-            MemoryError::InvalidEntry => "the bytes are no image of a sound allocator",
-            MemoryError::NoMemory => "too few bytes are free, or no free range fits",
-            MemoryError::InvalidRequest => "the request cannot be right: its size, order, addresses or places",
-        })
-    }
-}
+use crate::{calls, Call, CallAnswer, FreeRanges, LentAllocator, MemoryAllocator, UncheckedAllocator};
 
 impl fmt::Debug for MemoryAllocator {
     fn fmt(&self, f: &mut fmt::Formatter<'_>) -> fmt::Result {
@@ -33,12 +22,28 @@ impl fmt::Debug for LentAllocator<'_> {
     }
 }
 
-impl fmt::Debug for FreeRanges<'_> {
+fn show(name: &str, total: usize, ranges: FreeRanges, f: &mut fmt::Formatter<'_>) -> fmt::Result {
+    f.debug_struct(name).field("total", &format_args!("{:#x}", total)).field("ranges", &ranges).finish()
+}
+
+/// As it is written in Rust.
+impl fmt::Debug for Call {
     fn fmt(&self, f: &mut fmt::Formatter<'_>) -> fmt::Result {
-        f.debug_list().entries(self.clone()).finish()
+        let [kind, x, y, z] = *self.words();
+        match kind {
+            calls::FREE => write!(f, "Call::free({:#x}, {:#x})", x, y),
+            calls::ALLOCATE => write!(f, "Call::allocate({:#x}, {})", x, y),
+            _ => write!(f, "Call::reserve_memory({:#x}, {:#x}, {})", x, y, z),
+        }
     }
 }
 
-fn show(name: &str, total: usize, ranges: FreeRanges<'_>, f: &mut fmt::Formatter<'_>) -> fmt::Result {
-    f.debug_struct(name).field("total", &total).field("ranges", &ranges).finish()
+/// As its result is.
+impl fmt::Debug for CallAnswer {
+    fn fmt(&self, f: &mut fmt::Formatter<'_>) -> fmt::Result {
+        match self.result() {
+            Ok(address) => write!(f, "Ok({:#x})", address),
+            Err(error) => write!(f, "Err({:?})", error),
+        }
+    }
 }

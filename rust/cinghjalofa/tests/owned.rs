@@ -79,7 +79,7 @@ fn a_stray_write_is_noticed() {
     for at in 0..FIELD_BYTES {
         let mut memory = served();
         // SAFETY: the byte lies in the allocator, all of whose fields are numbers.
-        unsafe { *(&raw mut memory).cast::<u8>().add(at) ^= 0x80 };
+        unsafe { *core::ptr::addr_of_mut!(memory).cast::<u8>().add(at) ^= 0x80 };
         assert!(!memory.is_sound(), "byte {at}");
         assert_eq!(memory.free(0x80000, 0x1000), Err(MemoryError::InvalidEntry), "byte {at}");
         assert_eq!(memory.allocate(0x1000, 0), Err(MemoryError::InvalidEntry), "byte {at}");
@@ -87,7 +87,7 @@ fn a_stray_write_is_noticed() {
         let mut answers = [CallAnswer::default()];
         assert_eq!(memory.serve(&CALLS[..1], &mut answers), Err(MemoryError::InvalidEntry), "byte {at}");
         assert_eq!((memory.image(), answers), ([0; IMAGE_BYTES], [CallAnswer::default()]), "byte {at}");
-        unsafe { *(&raw mut memory).cast::<u8>().add(at) ^= 0x80 };
+        unsafe { *core::ptr::addr_of_mut!(memory).cast::<u8>().add(at) ^= 0x80 };
         assert_eq!(memory.image(), served().image(), "a refusal changed something where byte {at} was written over");
     }
 }

@@ -1,13 +1,12 @@
 //! The table of cases, by the two allocators that own their state and by a lent one: each answer, each listing, and no byte changed by a refusal.
 
-#[path = "../../../tests/cases.rs"]
 mod cases;
 
 use cases::{Call, Case, Line, Table};
 use cinghjalofa::{FreeRange, LentAllocator, MemoryAllocator, MemoryError, UncheckedAllocator, IMAGE_BYTES};
 
 fn table() -> Table {
-    cases::read(concat!(env!("CARGO_MANIFEST_DIR"), "/../../tests/cases.txt")).unwrap()
+    cases::read(concat!(env!("CARGO_MANIFEST_DIR"), "/tests/cases/cases.txt")).unwrap()
 }
 
 fn signed(answer: Result<usize, MemoryError>) -> i64 {
