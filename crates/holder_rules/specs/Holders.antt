@@ -145,14 +145,16 @@ isOf h (By g c) = eqb g h
 abbrev pub isTakeOf : ℕ → Call → Bool
 isTakeOf h c = isOf h c && not (frees (below c))
 
--- whether that call was a free, or a take of h; without one, what is said from the first
-abbrev pub saidFree : Bool → Option Voucher → Bool
-saidFree d none = d
-saidFree d (some v) = frees (below (v .call))
+-- what g says of that call; without one, what is said from the first
+abbrev pub said : (Voucher → Bool) → Bool → Option Voucher → Bool
+said g d none = d
+said g d (some v) = g v
 
-abbrev pub saidHeld : ℕ → Bool → Option Voucher → Bool
-saidHeld h d none = d
-saidHeld h d (some v) = isTakeOf h (v .call)
+abbrev pub wasFree : Voucher → Bool
+wasFree v = frees (below (v .call))
+
+abbrev pub wasTakeOf : ℕ → Voucher → Bool
+wasTakeOf h v = isTakeOf h (v .call)
 
 -- the byte x is held by h; by anybody
 unfoldable pub heldAt : ℕ → List Entry → ℕ → Bool
