@@ -2,11 +2,11 @@
 # compiled by Rattle's own words. To be sourced after begin.sh, with the project as the current folder. Gives
 #   keep_module CRATE             proves CRATE and leaves its module as text in target/module/CRATE/x86_64.ll, and the words
 #                                 that Rattle gave its clang beside it
+#   keep_program CRATE            the same of a program, which leaves target/bin/CRATE too
 #   retarget CRATE [KIND]         leaves the same for a kind of Arm machine, aarch64 where none is named, in target/module/CRATE/KIND.ll
 #   compile CRATE KIND TEXT OBJECT [WORD..]
 #                                 compiles such a text by the words kept for CRATE and those named, for a kind of machine
 #   pack ARCHIVE OBJECT..         makes an archive
-#   take_apart CRATE..            leaves the objects of the kit's archives for x86-64 of these crates as $work/CRATE.o
 # $work is a folder that is gone at the end.
 #
 # Rattle compiles for x86-64 alone. For Arm the module's target is replaced, and the kit's same clang compiles it, for three
@@ -14,14 +14,23 @@
 #   aarch64        bare: no unaligned access either, which faults while the MMU is off
 #   aarch64-mmu    the MMU is on: unaligned accesses are made where they are quicker
 #   aarch64-uefi   so too, as COFF, for UEFI
+# A program of Linux, aarch64-linux, has no such bounds.
 
 triple=aarch64-unknown-none-elf
 coff_triple=aarch64-unknown-windows
+linux_triple=aarch64-unknown-linux-gnu
 
 # target_of KIND: its triple; words_of KIND: what its clang is told
-target_of() { [ "$1" = aarch64-uefi ] && echo "$coff_triple" || echo "$triple"; }
+target_of() {
+  case $1 in
+  aarch64-uefi) echo "$coff_triple" ;;
+  aarch64-linux) echo "$linux_triple" ;;
+  *) echo "$triple" ;;
+  esac
+}
 words_of() {
   echo "--target=$(target_of "$1")"
+  [ "$1" != aarch64-linux ] || return 0
   echo -mgeneral-regs-only
   [ "$1" != aarch64 ] || echo -mstrict-align
   [ "$1" != aarch64-uefi ] || echo -mno-incremental-linker-compatible # no time of day in the object
@@ -64,11 +73,22 @@ make_keeping_kit() {
 }
 
 keep_module() {
+  say "$1 and the crates below it are proved first, which takes some minutes the first time"
+  keep_of "$1" staticlib
+}
+
+# rt hands on the module of a program that it has not proved yet
+keep_program() {
+  rm -f "target/stamp/$1"
+  keep_of "$1" check
+}
+
+# keep_of CRATE WORD: by this word of rt
+keep_of() {
   local kept=target/module/$1
   make_keeping_kit
   rm -f "$work/module.bc"
-  say "$1 and the crates below it are proved first, which takes some minutes the first time"
-  RATTLE_HOME=$work/kit rt staticlib "$1" </dev/null 2>&1 | tee "$work/said" | progress
+  RATTLE_HOME=$work/kit rt "$2" "$1" </dev/null 2>&1 | tee "$work/said" | progress
   [ "${PIPESTATUS[0]}" -eq 0 ] || { tell "$(cat "$work/said")"; fail "$1 could not be made: the words of rt stand above"; }
   [ -f "$work/module.bc" ] || fail "rt made $1 without handing a module to clang; is it another kit than kit-id names?"
   mkdir -p "$kept"
@@ -112,15 +132,9 @@ pack() {
   "${clang%clang}llvm-ar" rcsD "$@"
 }
 
-take_apart() {
-  local each
-  for each in "$@"; do
-    "${clang%clang}llvm-ar" p "target/staticlib/lib$each.a" >"$work/$each.o" || fail "the kit's archive of $each could not be taken apart"
-  done
-}
-
 kit=$(tools/kit-folder)
 clang=$kit/on/$(uname -m)/toolchain/bin/clang
 [ -x "$clang" ] || fail "the kit at $kit has no clang for $(uname -m)"
 work=$(mktemp -d)
+chmod 711 "$work" # rt runs a program as nobody, with the kit's emulator
 trap 'rm -rf "$work"' EXIT
