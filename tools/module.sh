@@ -7,7 +7,6 @@
 #   compile CRATE KIND TEXT OBJECT [WORD..]
 #                                 compiles such a text by the words kept for CRATE and those named, for a kind of machine
 #   pack ARCHIVE OBJECT..         makes an archive
-#   take_apart CRATE..            leaves the objects of the kit's archives for x86-64 of these crates as $work/CRATE.o
 # $work is a folder that is gone at the end.
 #
 # Rattle compiles for x86-64 alone. For Arm the module's target is replaced, and the kit's same clang compiles it, for four
@@ -131,13 +130,6 @@ pack() {
   mkdir -p "${1%/*}"
   rm -f "$1"
   "${clang%clang}llvm-ar" rcsD "$@"
-}
-
-take_apart() {
-  local each
-  for each in "$@"; do
-    "${clang%clang}llvm-ar" p "target/staticlib/lib$each.a" >"$work/$each.o" || fail "the kit's archive of $each could not be taken apart"
-  done
 }
 
 kit=$(tools/kit-folder)

@@ -4,6 +4,7 @@ use std::collections::{BTreeSet, HashSet};
 
 use cinghjalofa::{
     Call, CallAnswer, FreeRange, LentAllocator, MemoryAllocator, MemoryError, UncheckedAllocator, UnknownNumber,
+    RECORDS,
 };
 
 const ERRORS: [MemoryError; 4] =
