@@ -1,10 +1,9 @@
--- What a refusal leaves, which images are refused, and that the contracts allow one result. Assumes nothing.
+-- What a refusal leaves, and which images are refused. Assumes nothing.
 use Prim.Native.Nat.{ℕ}
 use mathlib.Core.Bool.{Bool, true, false, cond}
 use mathlib.Core.List.{List}
 use mathlib.Core.Logic.{_≢_}
-use mathlib.Core.Path.{_≡_, refl, sym, ap, _∙_}
-use lib.IntN.{ℤ}
+use mathlib.Core.Path.{_≡_, refl, sym}
 use lib.ListN.{length}
 use Rattle.rules.specs.Rules.{Call}
 use Rattle.calls.specs.Calls.{isAccepted, signedOf, numberFrom}
@@ -62,7 +61,3 @@ module _ (f : Layout) (l : List ℕ) where
   pub no-image : Lawful f → Bytes l → (Image f l → ⊥) → (c : Call) → callOver f c l ≡ returned (signedOf InvalidEntry) l
   unfolding callOver over
   no-image lawful bytes none-writes c = rw (refused-exactly f lawful l bytes .1 none-writes)
-
--- Any two results that a contract allows coincide: the number, and every byte.
-pub determined : (x : Returned) (i j : ℤ) (l m : List ℕ) → returned i l ≡ x → returned j m ≡ x → (i ≡ j) × (l ≡ m)
-determined x i j l m e g = (ap (λ (y : Returned). y .number) (e ∙ sym g), ap (λ (y : Returned). y .bytes) (e ∙ sym g))

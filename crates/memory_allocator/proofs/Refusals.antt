@@ -1,8 +1,8 @@
--- What a refusal leaves, and that the contracts allow one result. Assumes nothing.
+-- What a refusal leaves. Assumes nothing.
 use Prim.Native.Nat.{ℕ, _≤_}
 use mathlib.Core.Bool.{Bool, true, false}
 use mathlib.Core.Logic.{_≢_}
-use mathlib.Core.Path.{_≡_, refl, sym, ap, _∙_}
+use mathlib.Core.Path.{_≡_, refl, ap, _∙_}
 use Rattle.linked_lists.specs.Links.{none}
 use Rattle.rules.specs.Rules.{Book, Answer, Call, step}
 use Rattle.rules_laws.proofs.Outcomes.{Outcome, refusal, took, gave, outcome}
@@ -14,7 +14,6 @@ use Rattle.check_meaning.specs.Paragraph.{Sized}
 use Rattle.check_meaning.proofs.Exact.{passes-sound}
 use Rattle.calls.specs.Calls.{numberOf}
 use Rattle.core_serve.specs.Made.{made, judged}
-use Rattle.calls.specs.declared.Outcome as result
 
 refused-book : (n : ℕ) (b : Book) (c : Call) (w : Answer) → Outcome n b c w → w .number ≢ 0 → w .book ≡ b
 refused-book n b c _ (refusal k h m) d = refl
@@ -36,7 +35,3 @@ module _ (n : ℕ) (small : n ≤ none) (s : MemoryAllocator) (c : Call) where
           let p = passes-sound n small s z e in
           let k : step n c (bookOf n s) .number ≢ 0 = λ q. d (rw (e, q) refl) in
           rw e (ap (stateOf n) (refused-book n (bookOf n s) c _ (outcome n (bookOf n s) c (p .book)) k) ∙ p .state)
-
-  -- Any two results that the contract of a call allows coincide: number, address and the whole next state.
-  pub determined : (r r′ : result.Outcome) → r ≡ made n s c → r′ ≡ made n s c → r ≡ r′
-  determined r r′ e e′ = e ∙ sym e′
