@@ -1,0 +1,3 @@
+-- The ladders of refusals, and the piece of an accepted take.
+pub mod Ladders
+pub mod Accepted
