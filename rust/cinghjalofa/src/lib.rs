@@ -29,7 +29,7 @@ pub const PAGE_BYTES: usize = calls::PAGE_BYTES as usize;
 pub enum MemoryError {
     /// A record is needed and all 64 are in use.
     NoEntry,
-    /// The bytes are no image of a sound allocator.
+    /// The state, or the image, is not that of a sound allocator.
     InvalidEntry,
     /// Too few bytes are free, or no free range fits.
     NoMemory,
