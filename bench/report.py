@@ -132,7 +132,7 @@ Measured on: {results.processor}. {versions}.
 - **{checked}** is `MemoryAllocator`, in C `cinghjalofa_own_allocate` and the like: ten fields in the caller's memory, which each
   call checks whole, and then works on in place.
 - **{unchecked}** is `UncheckedAllocator`, in C `cinghjalofa_own_allocate_unchecked` and the like: the same without the check.
-- **{own_lists}** is `MemoryAllocator::serve`, in C `cinghjalofa_own_batch`: one check and one copy each way for a list.
+- **{own_lists}** is `MemoryAllocator::serve`, in C `cinghjalofa_own_batch`: one check for a list, and its calls in place.
 
 ## How the time grows
 
@@ -152,7 +152,7 @@ Lists of several lengths, about {ranges_of_lists} free ranges, and again as a mu
 
 Of the archive that was measured. The bytes of stack are the most that a call took, refused ones among them, with all records in use
 but one. Each object has all that it calls, so a program links those that it uses: `c_calls.o` has the calls over an image,
-`door_own.o` those on a state of one's own, `door_fields.o` a new one and its check, `door_copies.o` lists of calls on one, and images into
+`door_own.o` those on a state of one's own, `door_fields.o` a new one and its check, `door_lists.o` lists of calls on one, and images into
 and out of it.
 
 {sizes(results)}

@@ -59,7 +59,7 @@ typedef unsigned char cinghjalofa_bool;
 
 /* The refusals. */
 #define CINGHJALOFA_NO_ENTRY (-1)        /* a record is needed and none is unused */
-#define CINGHJALOFA_INVALID_ENTRY (-2)   /* the slice is no image of a sound allocator */
+#define CINGHJALOFA_INVALID_ENTRY (-2)   /* the state, or the image, is not that of a sound allocator */
 #define CINGHJALOFA_NO_MEMORY (-3)       /* too few free bytes, or no free range fits */
 #define CINGHJALOFA_INVALID_REQUEST (-4) /* size or count 0, order above 63, or a bad or overlapping range */
 

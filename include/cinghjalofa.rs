@@ -32,7 +32,7 @@ pub const MOST_PAGES: u64 = 1 << 51;
 
 /// A record is needed and none is unused.
 pub const NO_ENTRY: i64 = -1;
-/// The slice is no image of a sound allocator.
+/// The state, or the image, is not that of a sound allocator.
 pub const INVALID_ENTRY: i64 = -2;
 /// Too few free bytes, or no free range fits.
 pub const NO_MEMORY: i64 = -3;

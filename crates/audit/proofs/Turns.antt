@@ -6,11 +6,10 @@ use lib.ListN.{length}
 use native.Mathlib.Omega.{arith}
 use Rattle.linked_lists.specs.Links.{none}
 use Rattle.pool_state.specs.Sound.{SoundState}
-use Rattle.journal_audit.specs.Audit.{auditedOn}
-use Rattle.journal_audit.specs.declared.Auditing.{Auditing}
-use Rattle.journal_audit.specs.declared.Audited.{Audited}
+use Rattle.pool_state.specs.declared.MemoryAllocator.{MemoryAllocator}
+use Rattle.journal_audit.specs.Audit.{Auditing, Audited, auditedOn}
 use Rattle.journal_audit.proofs.Parts.{part-kept, part-sound}
-use Rattle.audit.specs.Sittings.{Ready}
+use Rattle.audit.specs.Sittings.{Seated, Ready}
 use Rattle.audit.specs.declared.Sitting.{Sitting}
 
 pub record Led (n : ℕ) (a : Auditing) (size : ℕ) (d : Audited) : Type 0 where
@@ -25,5 +24,8 @@ led n small a p size e h d is =
     let f = k .few in
     subst (Led n a size) (sym is) (record { sound = part-sound n small p [] a h; used = omega arith; few = omega arith })
 
-pub more-passed : (n : ℕ) (s : Sitting) (buf : List ℕ) (k m : ℕ) → k ≤ m → Ready n s buf k → Ready n s buf m
-more-passed n s buf k m h r = let f = r .few in record { sound = r .sound; held = r .held; few = omega arith }
+pub more-seated : (r : Sitting) (buf : List ℕ) (k m : ℕ) → k ≤ m → Seated r buf k → Seated r buf m
+more-seated r buf k m h g = let f = g .few in record { held = g .held; few = omega arith }
+
+pub more-passed : (n : ℕ) (s : MemoryAllocator) (r : Sitting) (buf : List ℕ) (k m : ℕ) → k ≤ m → Ready n s r buf k → Ready n s r buf m
+more-passed n s r buf k m h g = record { sound = g .sound; seated = more-seated r buf k m h (g .seated) }

@@ -23,8 +23,8 @@ use Rattle.calls.specs.declared.Answer.the-variants.{InvalidEntry}
 use Rattle.calls.specs.declared.Counted.{Counted}
 use Rattle.core_accounts.specs.Accounts.{counted, refused, totalOf, listedAnswer, listingOf, shownOf}
 use Rattle.core_accounts.proofs.Shows.{ordered, total-sound, total-unsound}
-use Rattle.image_parts.specs.Layout.{Layout}
-use Rattle.image_parts.proofs.Lawful.{Lawful, small-pool}
+use Rattle.image_parts.specs.Layout.{Layout, Lawful}
+use Rattle.image_parts.proofs.Lawful.{small-pool}
 use Rattle.image_parts.proofs.Loops.{both}
 use Rattle.image_reading.specs.Reading.{stateIn, framed, readable}
 use Rattle.image_reading.proofs.Whole.{state-sized}

@@ -1,6 +1,6 @@
 // The total and the listing as C has them: over a lent image; own.rt has those of a state of one's own. Nothing is written but what is asked for.
 use calls::INVALID_ENTRY;
-use image_reading::read_fields;
+use image_reading::read_current;
 use listed::list_signed;
 use pool_state::LISTS;
 use pool_state::NONE;
@@ -12,6 +12,7 @@ ghost use Rattle.pool_state.specs.Shown.{pool};
 ghost use Rattle.core_accounts.specs.Accounts.{totalOf};
 ghost use Rattle.door_accounts.specs.Accounts.{shownBy, Figures, ListsBy};
 
+mod fields;
 mod listed;
 mod own;
 
@@ -30,7 +31,7 @@ pub extern "C" fn cinghjalofa_total(image: &[u8], figure: &mut u64) -> i64
     let mut next = [NONE; POOL];
     let mut lprev = [NONE; POOL];
     let mut lnext = [NONE; POOL];
-    let readable = read_fields(
+    let readable = read_current(
         image,
         &mut total,
         &mut first,
@@ -65,7 +66,7 @@ pub extern "C" fn cinghjalofa_listing(image: &[u8], starts: &mut [u64], lasts: &
     let mut next = [NONE; POOL];
     let mut lprev = [NONE; POOL];
     let mut lnext = [NONE; POOL];
-    let is_image = read_fields(
+    let is_image = read_current(
         image,
         &mut total,
         &mut first,

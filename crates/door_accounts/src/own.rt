@@ -1,8 +1,8 @@
 // The total and the listing of a state of one's own, ten lent fields: both check it.
+use crate::fields::state_of;
 use crate::listed::list_signed;
 use calls::INVALID_ENTRY;
 use check_state::is_sound_in;
-use door_copies::state_of;
 use pool_state::LISTS;
 use pool_state::POOL;
 use pool_state::RecordIndex;
@@ -29,7 +29,7 @@ pub extern "C" fn cinghjalofa_fields_total(
 ) -> i64
     ensures { λ r. ⌜ Figures (totalOf pool (arrays total first (was heads) (was start) (was end) (was enabled) (was previous) (was next) (was lprev) (was lnext))) (was figure) r (is figure) ⌝ }
 {
-    // Never used, and so left out by the compiler: see cinghjalofa_fields_batch. So below.
+    // Never used, and so left out by the compiler: see fields.rt. So below.
     let _places = state_of(
         total,
         first,

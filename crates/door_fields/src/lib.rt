@@ -17,9 +17,8 @@ mod lent;
 pub use kinds::in_bytes;
 pub use lent::is_sound_lent;
 
-// The empty allocator, over whatever is there.
-#[no_mangle]
-pub extern "C" fn cinghjalofa_fields_new(
+// The fields of the empty state, over whatever is there.
+pub fn clear(
     total: &mut u64,
     first: &mut u16,
     heads: &mut [u16; LISTS],
@@ -43,6 +42,36 @@ pub extern "C" fn cinghjalofa_fields_new(
     *next = [NONE; POOL];
     *lprev = [NONE; POOL];
     *lnext = [NONE; POOL];
+}
+
+// The empty allocator, over whatever is there.
+#[no_mangle]
+pub extern "C" fn cinghjalofa_fields_new(
+    total: &mut u64,
+    first: &mut u16,
+    heads: &mut [u16; LISTS],
+    start: &mut [u64; POOL],
+    end: &mut [u64; POOL],
+    enabled: &mut [bool; POOL],
+    previous: &mut [u16; POOL],
+    next: &mut [u16; POOL],
+    lprev: &mut [u16; POOL],
+    lnext: &mut [u16; POOL],
+)
+    ensures { λ _. ⌜ turns (λ s s′. s′ ≡ stateOf pool empty) total first heads start end enabled previous next lprev lnext ⌝ }
+{
+    clear(
+        total,
+        first,
+        heads,
+        start,
+        end,
+        enabled,
+        previous,
+        next,
+        lprev,
+        lnext,
+    );
 }
 
 // Whether the fields are a sound state.

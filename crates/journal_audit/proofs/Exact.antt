@@ -32,13 +32,11 @@ use Rattle.journal_blocks.proofs.Back.{bytes-from, begun}
 use Rattle.journal_audit.specs.Audit as audit
 use Rattle.journal_audit.specs.Audit.{answerBits, replayed, stands, auditFrom, auditedOn, verdictFor, verdictOf, auditOf}
 use Rattle.journal_audit.specs.Vouchers.{recorded, leftBy}
-use Rattle.journal_audit.specs.declared.Auditing.{Auditing}
-use Rattle.journal_audit.specs.declared.Audited.{Audited}
 use Rattle.journal_audit.specs.declared.Stop.{Stop}
 use Rattle.journal_audit.specs.declared.Stop.the-variants as stop
 use Rattle.journal_audit.specs.declared.Verdict.{Verdict}
 use Rattle.journal_audit.specs.declared.Verdict.the-variants.{Agrees, Differs, Truncated, UnknownCall, WrongLength, NoVersion}
-use Rattle.journal_audit.proofs.Runs.{Differing, Stops, Ran, runs, replays}
+use Rattle.journal_audit.proofs.Runs.{Differing, Stops, Left, Ran, runs, replays}
 
 -- ---- reports tell their reasons
 
@@ -71,26 +69,25 @@ never : (v w : Verdict) (p : Verdict → Bool) → v ≡ w → p v ≡ false →
 never v w p e f g = true≢false (sym g ∙ sym (ap p e) ∙ f)
 
 -- what agrees has no more blocks
-agreed : (s : Stop) (size used : ℕ) (a : Auditing) (t : ℕ) → verdictFor s size used a ≡ Agrees t → (s ≡ stop.More) × (used ≡ size) × (t ≡ a .state .«free_size»)
-agreed stop.More size used a t e = go (eqb used size) refl e
+agreed : (s : Stop) (size used i u t : ℕ) → verdictFor s size used i u ≡ Agrees t → (s ≡ stop.More) × (used ≡ size) × (t ≡ u)
+agreed stop.More size used i u t e = go (eqb used size) refl e
   where
-    go : (q : Bool) → eqb used size ≡ q → cond q (Agrees (a .state .«free_size»)) (Truncated (a .index)) ≡ Agrees t
-        → (stop.More ≡ stop.More) × (used ≡ size) × (t ≡ a .state .«free_size»)
+    go : (q : Bool) → eqb used size ≡ q → cond q (Agrees u) (Truncated i) ≡ Agrees t → (stop.More ≡ stop.More) × (used ≡ size) × (t ≡ u)
     go true f g = (refl, eqb-true used size f, sym (ap figure g))
     go false f g = absurd (never _ _ agrees? g refl refl)
-agreed stop.Differs size used a t e = absurd (never _ _ agrees? e refl refl)
-agreed stop.UnknownCall size used a t e = absurd (never _ _ agrees? e refl refl)
-agreed stop.WrongLength size used a t e = absurd (never _ _ agrees? e refl refl)
+agreed stop.Differs size used i u t e = absurd (never _ _ agrees? e refl refl)
+agreed stop.UnknownCall size used i u t e = absurd (never _ _ agrees? e refl refl)
+agreed stop.WrongLength size used i u t e = absurd (never _ _ agrees? e refl refl)
 
-differed : (s : Stop) (size used : ℕ) (a : Auditing) (i : ℕ) → verdictFor s size used a ≡ Differs i → (s ≡ stop.Differs) × (i ≡ a .index)
-differed stop.More size used a i e = go (eqb used size) e
+differed : (s : Stop) (size used i u j : ℕ) → verdictFor s size used i u ≡ Differs j → (s ≡ stop.Differs) × (j ≡ i)
+differed stop.More size used i u j e = go (eqb used size) e
   where
-    go : (q : Bool) → cond q (Agrees (a .state .«free_size»)) (Truncated (a .index)) ≡ Differs i → (stop.More ≡ stop.Differs) × (i ≡ a .index)
+    go : (q : Bool) → cond q (Agrees u) (Truncated i) ≡ Differs j → (stop.More ≡ stop.Differs) × (j ≡ i)
     go true g = absurd (never _ _ differs? g refl refl)
     go false g = absurd (never _ _ differs? g refl refl)
-differed stop.Differs size used a i e = (refl, sym (ap figure e))
-differed stop.UnknownCall size used a i e = absurd (never _ _ differs? e refl refl)
-differed stop.WrongLength size used a i e = absurd (never _ _ differs? e refl refl)
+differed stop.Differs size used i u j e = (refl, sym (ap figure e))
+differed stop.UnknownCall size used i u j e = absurd (never _ _ differs? e refl refl)
+differed stop.WrongLength size used i u j e = absurd (never _ _ differs? e refl refl)
 
 -- the journal has a version, or that is what is reported
 has-version : (n : ℕ) (l : List ℕ) (v : Verdict) (p : Verdict → Bool) → auditOf n l ≡ v → p NoVersion ≡ false → p v ≡ true
@@ -169,13 +166,14 @@ module _ (n : ℕ) (small : n ≤ none) where
         let v = has-version n l (Agrees t) agrees? e refl refl in
         let r = ran l bytes in
         let d = auditedOn n (audit.begun n) (drop 1 l) in
-        let a = agreed (d .stop) (length (drop 1 l)) (d .used) (d .auditing) t (v .1) in
+        let a = agreed (d .stop) (length (drop 1 l)) (d .used) (d .auditing .index) (d .auditing .state .«free_size») t (v .1) in
         let nothing : drop (d .used) (drop 1 l) ≡ [] = ap (λ (m : ℕ). drop m (drop 1 l)) (a .1) ∙ drop-length (drop 1 l) in
         let blocks = blocksBytes (recorded n empty (r .calls)) in
+        let left : d .auditing .state ≡ stateOf n (leftBy n empty (r .calls)) = subst (λ (x : Stop). Left x (d .auditing .state) (stateOf n (leftBy n empty (r .calls)))) (a .0) (r .state) in
         record {
           calls = r .calls;
           bytes = v .0 ∙ ap (λ (x : List ℕ). version ∷ x) (r .bytes ∙ ap (λ (x : List ℕ). blocks ++ x) nothing ∙ append-nil blocks);
-          final = a .2 ∙ ap (λ (s : MemoryAllocator). s .«free_size») (r .state);
+          final = a .2 ∙ ap (λ (s : MemoryAllocator). s .«free_size») left;
           fit = r .fit;
         }
 
@@ -185,7 +183,7 @@ module _ (n : ℕ) (small : n ≤ none) where
         let v = has-version n l (Differs i) differs? e refl refl in
         let r = ran l bytes in
         let d = auditedOn n (audit.begun n) (drop 1 l) in
-        let a = differed (d .stop) (length (drop 1 l)) (d .used) (d .auditing) i (v .1) in
+        let a = differed (d .stop) (length (drop 1 l)) (d .used) (d .auditing .index) (d .auditing .state .«free_size») i (v .1) in
         record {
           calls = r .calls;
           count = let j = r .index in let k = a .1 in omega arith;

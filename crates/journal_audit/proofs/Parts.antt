@@ -28,9 +28,7 @@ use Rattle.journal_blocks.specs.declared.Entry.{Entry}
 use Rattle.journal_blocks.specs.declared.Block.{Block}
 use Rattle.journal_blocks.specs.declared.Block.the-variants as block
 use Rattle.journal_blocks.proofs.Seen.{Whole, Seen, none, short, unsized, unknown, unfit, call, seen, at-least, Ahead, ahead}
-use Rattle.journal_audit.specs.Audit.{answerBits, replayed, stands, judgedBy, auditFrom, auditedOn}
-use Rattle.journal_audit.specs.declared.Auditing.{Auditing}
-use Rattle.journal_audit.specs.declared.Audited.{Audited}
+use Rattle.journal_audit.specs.Audit.{Auditing, Audited, answerBits, replayed, stands, judgedBy, auditFrom, auditedOn}
 use Rattle.journal_audit.specs.declared.Stop.{Stop}
 use Rattle.journal_audit.specs.declared.Stop.the-variants as stop
 
@@ -40,7 +38,7 @@ module _ (n : ℕ) (l : List ℕ) where
   judged-same : (f g : ℕ → ℕ → Book → Audited) (at i : ℕ) (b : Book) (w : Block) → Ahead at (drop at l) w
       → ((next : ℕ) (j : ℕ) (d : Book) → at < next → f next j d ≡ g next j d) → judgedBy n f at i b w ≡ judgedBy n g at i b w
   judged-same f g at i b (block.Call e next) h same =
-      ap (λ (r : Audited). cond (eqb (answerBits (replayed n b (e .request))) (e .answer)) r (stands n at i b stop.Differs)) (same next (suc i) _ (let p = h .0 in omega arith))
+      ap (λ (r : Audited). cond (eqb (answerBits (replayed n b (e .request))) (e .answer)) r (stands n at i (replayed n b (e .request) .book) stop.Differs)) (same next (suc i) _ (let p = h .0 in omega arith))
   judged-same f g at i b block.End h same = refl
   judged-same f g at i b block.Truncated h same = refl
   judged-same f g at i b block.UnknownCall h same = refl
@@ -93,8 +91,8 @@ module _ (n u : ℕ) (l : List ℕ) where
           → judgedBy n (auditFrom n k l) (u + at) i b (further u w) ≡ moved u (judgedBy n (auditFrom n k (drop u l)) at i b w)
       go (block.Call e next) ih = test (eqb (answerBits (replayed n b (e .request))) (e .answer))
         where
-          test : (t : Bool) → cond t (auditFrom n k l (u + next) (suc i) (replayed n b (e .request) .book)) (stands n (u + at) i b stop.Differs)
-              ≡ moved u (cond t (auditFrom n k (drop u l) next (suc i) (replayed n b (e .request) .book)) (stands n at i b stop.Differs))
+          test : (t : Bool) → cond t (auditFrom n k l (u + next) (suc i) (replayed n b (e .request) .book)) (stands n (u + at) i (replayed n b (e .request) .book) stop.Differs)
+              ≡ moved u (cond t (auditFrom n k (drop u l) next (suc i) (replayed n b (e .request) .book)) (stands n at i (replayed n b (e .request) .book) stop.Differs))
           test true = ih next (suc i) _
           test false = refl
       go block.End ih = refl
@@ -198,7 +196,7 @@ kept n p (suc k) at i b s h = go (blockAt p at) (ahead at (drop at p)) (λ next 
         → Kept n p at i (judgedBy n (auditFrom n k p) at i b w)
     go (block.Call e next) a ih = test (eqb (answerBits (replayed n b (e .request))) (e .answer))
       where
-        test : (t : Bool) → Kept n p at i (cond t (auditFrom n k p next (suc i) (replayed n b (e .request) .book)) (stands n at i b stop.Differs))
+        test : (t : Bool) → Kept n p at i (cond t (auditFrom n k p next (suc i) (replayed n b (e .request) .book)) (stands n at i (replayed n b (e .request) .book) stop.Differs))
         test true =
             let far = a .0 in
             let there = a .1 in
@@ -207,7 +205,14 @@ kept n p (suc k) at i b s h = go (blockAt p at) (ahead at (drop at p)) (λ next 
             let f = g .from in
             let m = g .few in
             record { from = omega arith; within = g .within; few = omega arith; book = g .book; sound = g .sound; state = g .state }
-        test false = still stop.Differs
+        test false = record {
+          from = omega arith;
+          within = h;
+          few = omega arith;
+          book = _;
+          sound = step-sound n b (callOf (e .request)) s;
+          state = refl;
+        }
     go block.End a ih = still stop.More
     go block.Truncated a ih = still stop.More
     go block.UnknownCall a ih = still stop.UnknownCall
@@ -255,9 +260,9 @@ module _ (n : ℕ) (small : n ≤ links.none) (p ys : List ℕ) where
           → auditFrom n fuel whole at i b ≡ onwardBy (judgedBy n (auditFrom n k p) at i b w .stop) (judgedBy n (auditFrom n k p) at i b w)
       go (block.Call e next) is a ih = found (block.Call e next) is refl ∙ test (eqb (answerBits (replayed n b (e .request))) (e .answer))
         where
-          test : (t : Bool) → cond t (auditFrom n fuel whole next (suc i) (replayed n b (e .request) .book)) (stands n at i b stop.Differs)
-              ≡ onwardBy (cond t (auditFrom n k p next (suc i) (replayed n b (e .request) .book)) (stands n at i b stop.Differs) .stop)
-              (cond t (auditFrom n k p next (suc i) (replayed n b (e .request) .book)) (stands n at i b stop.Differs))
+          test : (t : Bool) → cond t (auditFrom n fuel whole next (suc i) (replayed n b (e .request) .book)) (stands n at i (replayed n b (e .request) .book) stop.Differs)
+              ≡ onwardBy (cond t (auditFrom n k p next (suc i) (replayed n b (e .request) .book)) (stands n at i (replayed n b (e .request) .book) stop.Differs) .stop)
+              (cond t (auditFrom n k p next (suc i) (replayed n b (e .request) .book)) (stands n at i (replayed n b (e .request) .book) stop.Differs))
           test true = ih next (suc i) _ (step-sound n b (callOf (e .request)) s) (let there = a .1 in let z = length-drop at p in omega arith)
           test false = refl
       go block.End is a ih = waits at i b s

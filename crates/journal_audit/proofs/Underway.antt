@@ -21,9 +21,7 @@ use Rattle.journal_blocks.specs.declared.Entry.{Entry}
 use Rattle.journal_blocks.specs.declared.Block.{Block}
 use Rattle.journal_blocks.specs.declared.Block.the-variants as block
 use Rattle.journal_blocks.proofs.Seen.{Ahead, ahead}
-use Rattle.journal_audit.specs.Audit.{answerBits, replayed, stands, standsAt, judgedBy, auditFrom, auditedOn}
-use Rattle.journal_audit.specs.declared.Auditing.{Auditing}
-use Rattle.journal_audit.specs.declared.Audited.{Audited}
+use Rattle.journal_audit.specs.Audit.{Auditing, Audited, answerBits, replayed, stands, standsAt, judgedBy, auditFrom, auditedOn}
 use Rattle.journal_audit.specs.declared.Stop.the-variants as stop
 
 -- the audit of l that began with a stands at d, and goes on
@@ -75,8 +73,8 @@ module _ (n : ℕ) (small : n ≤ none) (l : List ℕ) (a : Auditing) where
         → judgedBy n (auditFrom n k l) at i b (block.Call e next) ≡ auditedOn n a l → Then (judgedBy n (standsAt n) at i b (block.Call e next))
     called e next k h enough = go (eqb (answerBits (replayed n b (e .request))) (e .answer))
       where
-        go : (t : Bool) → cond t (auditFrom n k l next (suc i) (replayed n b (e .request) .book)) (stands n at i b stop.Differs) ≡ auditedOn n a l
-            → Then (cond t (standsAt n next (suc i) (replayed n b (e .request) .book)) (stands n at i b stop.Differs))
+        go : (t : Bool) → cond t (auditFrom n k l next (suc i) (replayed n b (e .request) .book)) (stands n at i (replayed n b (e .request) .book) stop.Differs) ≡ auditedOn n a l
+            → Then (cond t (standsAt n next (suc i) (replayed n b (e .request) .book)) (stands n at i (replayed n b (e .request) .book) stop.Differs))
         go true g = goes _ (let far = h .0 in omega arith) (ongoing e next k h enough g)
         go false g = stays _ refl g
 

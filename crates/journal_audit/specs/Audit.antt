@@ -8,14 +8,14 @@ use Rattle.rules.specs.Rules as rules
 use Rattle.rules.specs.Rules.{Book, empty, step}
 use Rattle.pool_state.specs.State.{stateOf}
 use Rattle.pool_state.specs.Sound.{bookOf}
+use Rattle.pool_state.specs.declared.MemoryAllocator.{MemoryAllocator}
 use Rattle.calls.specs.Calls.{callOf, answerOf, signedOf}
 use Rattle.calls.specs.declared.Request.{Request}
 use Rattle.journal_blocks.specs.Bits.{bitsOf}
 use Rattle.journal_blocks.specs.Journal.{versioned, blockAt}
 use Rattle.journal_blocks.specs.declared.Block.{Block}
 use Rattle.journal_blocks.specs.declared.Block.the-variants as block
-use Rattle.journal_audit.specs.declared.Auditing.{Auditing}
-use Rattle.journal_audit.specs.declared.Audited.{Audited}
+use Rattle.journal_audit.specs.declared.Stand.{Stand}
 use Rattle.journal_audit.specs.declared.Stop.{Stop}
 use Rattle.journal_audit.specs.declared.Stop.the-variants as stop
 use Rattle.journal_audit.specs.declared.Verdict.{Verdict}
@@ -28,17 +28,32 @@ answerBits w = bitsOf (signedOf (answerOf (w .number) (w .address)))
 abbrev pub replayed : ℕ → Book → Request → rules.Answer
 replayed n b q = step n (callOf q) b
 
--- the audit stands at a place: so many calls have agreed, and the book is what they left
+-- the state that the calls left which were made, and the number of those that have agreed
+pub record Auditing : Type 0 where
+  pub state : MemoryAllocator
+  pub index : ℕ
+
+-- where the audit stands, how many of the bytes were those of blocks that agreed, and why it stopped
+pub record Audited : Type 0 where
+  pub auditing : Auditing
+  pub used : ℕ
+  pub stop : Stop
+
+-- in place: the lent fields are the state
+abbrev pub audited : MemoryAllocator → Stand → Audited
+audited s r = record { auditing = record { state = s; index = r .index }; used = r .used; stop = r .stop }
+
+-- the audit stands at a place: so many calls have agreed, and the book is what the calls left
 abbrev pub stands : ℕ → ℕ → ℕ → Book → Stop → Audited
 stands n at i b s = record { auditing = record { state = stateOf n b; index = i }; used = at; stop = s }
 
 abbrev pub standsAt : ℕ → ℕ → ℕ → Book → Audited
 standsAt n at i b = stands n at i b stop.More
 
--- a call that agrees is passed, and `rest` goes on behind it; the audit stops at the first of any other
+-- a call that agrees is passed, and `rest` goes on behind it; the audit stops at the first of any other. One that differs was made, too
 abbrev pub judgedBy : ℕ → (ℕ → ℕ → Book → Audited) → ℕ → ℕ → Book → Block → Audited
 judgedBy n rest at i b (block.Call e next) =
-    cond (eqb (answerBits (replayed n b (e .request))) (e .answer)) (rest next (suc i) (replayed n b (e .request) .book)) (stands n at i b stop.Differs)
+    cond (eqb (answerBits (replayed n b (e .request))) (e .answer)) (rest next (suc i) (replayed n b (e .request) .book)) (stands n at i (replayed n b (e .request) .book) stop.Differs)
 judgedBy n rest at i b block.End = stands n at i b stop.More
 judgedBy n rest at i b block.Truncated = stands n at i b stop.More
 judgedBy n rest at i b block.UnknownCall = stands n at i b stop.UnknownCall
@@ -57,15 +72,15 @@ auditedOn n a l = auditFrom n (length l) l 0 (a .index) (bookOf n (a .state))
 abbrev pub begun : ℕ → Auditing
 begun n = record { state = stateOf n empty; index = 0 }
 
--- after all blocks, of so many bytes: bytes that are left over are a block that is cut off
-abbrev pub verdictFor : Stop → ℕ → ℕ → Auditing → Verdict
-verdictFor stop.More size used a = cond (eqb used size) (Agrees (a .state .«free_size»)) (Truncated (a .index))
-verdictFor stop.Differs size used a = Differs (a .index)
-verdictFor stop.UnknownCall size used a = UnknownCall (a .index)
-verdictFor stop.WrongLength size used a = WrongLength (a .index)
+-- after all blocks, of so many bytes: bytes that are left over are a block that is cut off. i calls have agreed, and t is the total
+abbrev pub verdictFor : Stop → ℕ → ℕ → ℕ → ℕ → Verdict
+verdictFor stop.More size used i t = cond (eqb used size) (Agrees t) (Truncated i)
+verdictFor stop.Differs size used i t = Differs i
+verdictFor stop.UnknownCall size used i t = UnknownCall i
+verdictFor stop.WrongLength size used i t = WrongLength i
 
 abbrev pub verdictOf : ℕ → Audited → Verdict
-verdictOf size d = verdictFor (d .stop) size (d .used) (d .auditing)
+verdictOf size d = verdictFor (d .stop) size (d .used) (d .auditing .index) (d .auditing .state .«free_size»)
 
 -- a whole journal
 abbrev pub auditOf : ℕ → List ℕ → Verdict

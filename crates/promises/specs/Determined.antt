@@ -20,7 +20,7 @@ use Rattle.image.specs.declared.Reading.{Reading}
 use Rattle.image_calls.specs.Lists.{Returned, returned, BatchOver}
 use Rattle.door_own.specs.Own.{Judged}
 use Rattle.doors.specs.Lent.{Does}
-use Rattle.door_copies.specs.Copies.{Lists, Imports, Exports}
+use Rattle.door_lists.specs.Lists.{Lists, Imports, Exports}
 use Rattle.journal_calls.specs.Calls.{Left, left, Reports}
 use Rattle.journal_audit.specs.declared.Verdict.{Verdict}
 use Rattle.script_texts.specs.Answers.{Puts}

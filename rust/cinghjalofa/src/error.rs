@@ -67,7 +67,7 @@ impl fmt::Display for MemoryError {
     fn fmt(&self, f: &mut fmt::Formatter<'_>) -> fmt::Result {
         f.write_str(match self {
             MemoryError::NoEntry => "a record is needed and none is unused",
-            MemoryError::InvalidEntry => "the bytes are no image of a sound allocator",
+            MemoryError::InvalidEntry => "the state, or the image, is not that of a sound allocator",
             MemoryError::NoMemory => "too few bytes are free, or no free range fits",
             MemoryError::InvalidRequest => "the request cannot be right: its size, order, addresses or places",
         })

@@ -8,16 +8,16 @@ use Rattle.door_accounts.proofs.Ways.{unreadable-total, total-in}
 use Rattle.door_accounts.proofs.cinghjalofa_total.Statement.{statement}
 use Rattle.door_accounts.proofs.cinghjalofa_total.Tie as tie
 
-read-fields-requires : tie.Need-read-fields-requires
-read-fields-requires c κs = fresh-state pool
+read-current-requires : tie.Need-read-current-requires
+read-current-requires c κs = fresh-state pool
 
 returns : tie.Need-returns
 returns c =
-    let read = c .before .read-fields .ensures in
+    let read = c .before .read-current .ensures in
     total-in current _ lawful-current (sym (read .told) ∙ c .if1 .taken) _ (read .state (c .if1 .taken)) _
 
 returns-2 : tie.Need-returns-2
-returns-2 c = unreadable-total current _ (sym (c .before .read-fields .ensures .told) ∙ c .if1 .left) (totalOf pool) _
+returns-2 c = unreadable-total current _ (sym (c .before .read-current .ensures .told) ∙ c .if1 .left) (totalOf pool) _
 
 pub cinghjalofa-total-spec : {M : Type 1} → statement M
-cinghjalofa-total-spec = tie.close (tie.spec read-fields-requires returns returns-2)
+cinghjalofa-total-spec = tie.close (tie.spec read-current-requires returns returns-2)

@@ -27,35 +27,39 @@ enum-told-3 c = search needs
 enum-told-4 : tie.Need-enum-told-4
 enum-told-4 c = search needs
 
+-- back over the ten lent fields
+abbrev called : tie.After-audit-call → tie.After-entry
+called c = let lent = c .before .before .before .before .before .before in lent .before .before .before .before .before .before
+
 returns : tie.Need-returns
 returns c =
-    let read = c .before .before .before .before in
-    let s = read .before .before in
-    block-judged pool (s .args .a) _ _ _ (read .read-block .ensures) _ (c .before .before .entry .given .1) _ (c .audit-call .ensures)
+    let keyed = called c in
+    let read = keyed .before .before in
+    block-judged pool _ _ _ _ _ (read .read-block .ensures) _ (keyed .entry .given .1) _ (c .audit-call .ensures)
 
 returns-2 : tie.Need-returns-2
 returns-2 c =
     let read = c .before .before in
     let s = read .before .before in
-    fault-judged pool (lit≤ tt) (s .args .a) _ (s .pre .0) _ _ (read .read-block .ensures) _ (c .enum-told .given .1) _ refl
+    fault-judged pool (lit≤ tt) _ _ _ (s .pre .0) _ _ (read .read-block .ensures) _ (c .enum-told .given .1) _ refl
 
 returns-3 : tie.Need-returns-3
 returns-3 c =
     let read = c .before .before in
     let s = read .before .before in
-    fault-judged pool (lit≤ tt) (s .args .a) _ (s .pre .0) _ _ (read .read-block .ensures) _ (c .enum-told2 .given .1) _ refl
+    fault-judged pool (lit≤ tt) _ _ _ (s .pre .0) _ _ (read .read-block .ensures) _ (c .enum-told2 .given .1) _ refl
 
 returns-4 : tie.Need-returns-4
 returns-4 c =
     let read = c .before .before in
     let s = read .before .before in
-    fault-judged pool (lit≤ tt) (s .args .a) _ (s .pre .0) _ _ (read .read-block .ensures) _ (c .enum-told3 .given .1) _ refl
+    fault-judged pool (lit≤ tt) _ _ _ (s .pre .0) _ _ (read .read-block .ensures) _ (c .enum-told3 .given .1) _ refl
 
 returns-5 : tie.Need-returns-5
 returns-5 c =
     let read = c .before .before in
     let s = read .before .before in
-    fault-judged pool (lit≤ tt) (s .args .a) _ (s .pre .0) _ _ (read .read-block .ensures) _ (c .enum-told4 .given .1) _ refl
+    fault-judged pool (lit≤ tt) _ _ _ (s .pre .0) _ _ (read .read-block .ensures) _ (c .enum-told4 .given .1) _ refl
 
 pub audit-block-spec : {M : Type 1} → statement M
 audit-block-spec =

@@ -1,13 +1,17 @@
 use lib.Dec.{lit≤}
 use Rattle.pool_state.specs.Shown.{pool}
-use Rattle.check_meaning.proofs.Exact.{sound-passes}
+use Rattle.pool_state.proofs.Book.{sound-holds}
 use Rattle.journal_audit.proofs.Ways.{call-differs, call-agrees}
 use borrow.Author.Needs.{needs}
 use Rattle.journal_audit.proofs.audit_call.Statement.{statement}
 use Rattle.journal_audit.proofs.audit_call.Tie as tie
 
-serve-sound-requires : tie.Need-serve-sound-requires
-serve-sound-requires c κs = sound-passes pool (lit≤ tt) _ (c .pre .0)
+-- back over the ten lent fields
+abbrev at-start : tie.After-serve-in → tie.Start
+at-start c = let lent = c .before .before .before .before .before .before in lent .before .before .before .before .before
+
+serve-in-requires : tie.Need-serve-in-requires
+serve-in-requires c κs = let lent = c .before .before .before .before .before in let s = lent .before .before .before .before .before in (_, sound-holds pool _ (s .pre .0))
 
 answer-bits-requires : tie.Need-answer-bits-requires
 answer-bits-requires c κs = search needs
@@ -16,20 +20,18 @@ returns : tie.Need-returns
 returns c =
     let told = c .before .before in
     let served = told .before in
-    let s = served .before in
-    call-differs pool (lit≤ tt) (s .args .a) (s .args .entry) _ _ (s .pre .0) _ (served .serve-sound .ensures) _ (told .answer-bits .ensures) (c .if1 .taken)
+    let s = at-start served in
+    call-differs pool (lit≤ tt) _ _ _ (s .args .entry) _ (s .pre .0) _ _ (served .serve-in .ensures) _ (told .answer-bits .ensures) (c .if1 .taken)
 
-add-t10 : tie.Need-add-t10
-add-t10 c = search needs
+add-t27 : tie.Need-add-t27
+add-t27 c = search needs
 
 returns-2 : tie.Need-returns-2
 returns-2 c =
-    let same = c .before .before in
-    let told = same .before .before in
+    let told = c .before .before in
     let served = told .before in
-    let s = served .before in
-    call-agrees pool (lit≤ tt) (s .args .a) (s .args .entry) _ _ (s .pre .0) _ (served .serve-sound .ensures) _ (told .answer-bits .ensures) (same .if1 .left)
+    let s = at-start served in
+    call-agrees pool (lit≤ tt) _ _ _ (s .args .entry) _ (s .pre .0) _ _ (served .serve-in .ensures) _ (told .answer-bits .ensures) (c .if1 .left)
 
 pub audit-call-spec : {M : Type 1} → statement M
-audit-call-spec =
-    tie.close (tie.spec serve-sound-requires answer-bits-requires returns add-t10 returns-2)
+audit-call-spec = tie.close (tie.spec serve-in-requires answer-bits-requires returns add-t27 returns-2)

@@ -1,7 +1,7 @@
 use Rattle.pool_state.specs.Shown.{pool}
 use Rattle.pool_state.proofs.States.{fresh-state}
-use Rattle.door_copies.proofs.is_image.Statement.{statement}
-use Rattle.door_copies.proofs.is_image.Tie as tie
+use Rattle.door_lists.proofs.is_image.Statement.{statement}
+use Rattle.door_lists.proofs.is_image.Tie as tie
 
 read-current-requires : tie.Need-read-current-requires
 read-current-requires c κs = fresh-state pool

@@ -2,10 +2,10 @@ use Rattle.linked_lists.proofs.Laws.{true≢false}
 use Rattle.image_parts.specs.Layout.{current}
 use Rattle.image.specs.declared.ImageAnswer.the-variants.{Done, InvalidEntry}
 use Rattle.image.proofs.Ways.{wrong-length, unsound, done}
-use Rattle.door_copies.proofs.Copies.{exported}
+use Rattle.door_lists.proofs.Ways.{exported}
 use borrow.Author.Needs.{needs}
-use Rattle.door_copies.proofs.cinghjalofa_fields_export.Statement.{statement}
-use Rattle.door_copies.proofs.cinghjalofa_fields_export.Tie as tie
+use Rattle.door_lists.proofs.cinghjalofa_fields_export.Statement.{statement}
+use Rattle.door_lists.proofs.cinghjalofa_fields_export.Tie as tie
 
 returns : tie.Need-returns
 returns c = exported current _ _ _ InvalidEntry (wrong-length current _ _ (c .if1 .taken))

@@ -11,15 +11,23 @@ use Rattle.calls.specs.Calls.{signedOf}
 use Rattle.calls.specs.declared.Answer.the-variants.{Accepted, InvalidEntry}
 use Rattle.calls.specs.declared.Outcome.{Outcome}
 use Rattle.batch.specs.Lists.{listServed, answered}
+use Rattle.door_fields.specs.Fields.{isSized}
 use Rattle.image_parts.specs.Layout.{Layout}
 use Rattle.image.specs.Reading.{readingOf}
 use Rattle.image.specs.Writing.{writingOf}
 
--- a list l of calls, with its places: r is what it is answered, s′ the state that it leaves, and the places hold the answers
+-- a list l of calls with k places does what it does to a state by value (`Lists.antt` of batch); arrays that cannot be lent are no sound state
+unfoldable pub listedHere : ℕ → MemoryAllocator → List ℕ → ℕ → Outcome
+listedHere n s l k = cond (isSized n s) (listServed n s l k) (record { answer = InvalidEntry; state = s })
+
+unfoldable pub answeredHere : ℕ → MemoryAllocator → List ℕ → List ℤ → List ℤ
+answeredHere n s l old = cond (isSized n s) (answered n s l old) old
+
+-- r is what the list is answered, s′ the state that it leaves, and the places hold the answers
 pub record Lists (n : ℕ) (s : MemoryAllocator) (l : List ℕ) (old : List ℤ) (r : ℤ) (s′ : MemoryAllocator) (now : List ℤ) : Type 0 where
-  pub number : r ≡ signedOf (listServed n s l (length old) .answer)
-  pub state : s′ ≡ listServed n s l (length old) .state
-  pub answers : now ≡ answered n s l old
+  pub number : r ≡ signedOf (listedHere n s l (length old) .answer)
+  pub state : s′ ≡ listedHere n s l (length old) .state
+  pub answers : now ≡ answeredHere n s l old
 
 -- the state that the image l holds; where it holds none, InvalidEntry and the state as it was
 unfoldable pub imported : Layout → List ℕ → MemoryAllocator → Outcome

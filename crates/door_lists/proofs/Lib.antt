@@ -1,3 +1,3 @@
 -- Laws of lists of calls on a state of one's own, and of images of it.
-pub mod Copies
 pub mod Kept
+pub mod Ways

@@ -1,8 +1,8 @@
 -- What the definitions give on each way through the code. n is the number of records, f the layout of an image. Assumes nothing.
 use Prim.Native.Nat.{ℕ, _≤_}
-use mathlib.Core.Bool.{true, false}
+use mathlib.Core.Bool.{Bool, true, false, _&&_}
 use mathlib.Core.List.{List}
-use mathlib.Core.Path.{_≡_, refl, sym, ap, subst}
+use mathlib.Core.Path.{_≡_, refl, sym, ap, _∙_}
 use lib.IntN.{ℤ, pos, negℤ}
 use lib.ListN.{length}
 use Rattle.linked_lists.specs.Links.{none}
@@ -11,40 +11,52 @@ use Rattle.pool_state.specs.State.{Holds}
 use Rattle.pool_state.specs.declared.MemoryAllocator.{MemoryAllocator}
 use Rattle.pool_state.proofs.Book.{sound-holds}
 use Rattle.check_state.specs.IsSound.{isSound}
-use Rattle.check_meaning.specs.Paragraph.{Sized}
 use Rattle.check_meaning.proofs.Exact.{passes-sound}
+use Rattle.check_records.proofs.Tests.{and-true}
 use Rattle.calls.specs.Calls.{signedOf}
 use Rattle.calls.specs.declared.Answer.the-variants.{InvalidEntry, InvalidRequest}
 use Rattle.calls.specs.declared.Outcome.{Outcome}
 use Rattle.batch.specs.Lists.{fitted, Served, Serves}
 use Rattle.batch.proofs.Ways.{unsound, unfitted, done}
+use Rattle.door_fields.specs.Fields.{isSized, soundHere}
+use Rattle.door_fields.proofs.Sized.{passes-sized}
 use Rattle.image_parts.specs.Layout.{Layout}
 use Rattle.image_reading.specs.Reading.{stateIn, readable}
 use Rattle.image.specs.Writing.{numberOf, Written, written, writingOf}
 use Rattle.image.specs.declared.ImageAnswer.{ImageAnswer}
 use Rattle.image.proofs.Ways.{unread, read-whole}
-use Rattle.door_copies.specs.Copies.{Lists, imported, Imports, Exports}
+use Rattle.door_lists.specs.Lists.{listedHere, answeredHere, Lists, imported, Imports, Exports}
 
 -- ---- lists
 
--- fields that pass the check hold a book, if a copy t of them has the places that its types say
-pub held-here : (n : ℕ) → n ≤ none → (s t : MemoryAllocator) → t ≡ s → Sized n t → isSound n s ≡ true → (b : Book) × Holds n b s
-held-here n small s t e sized on = (_, sound-holds n s (passes-sound n small s (subst (Sized n) e sized) on))
+-- fields that pass the check hold a book
+pub held-here : (n : ℕ) → n ≤ none → (s : MemoryAllocator) → soundHere n s ≡ true → (b : Book) × Holds n b s
+held-here n small s h = let w = and-true _ _ h in (_, sound-holds n s (passes-sound n small s (passes-sized n s (w .0)) (w .1)))
 
 module _ (n : ℕ) (s : MemoryAllocator) (l : List ℕ) (old : List ℤ) where
-  listed : (w : Outcome) (now : List ℤ) → Serves n s l old w now → Lists n s l old (signedOf (w .answer)) (w .state) now
-  listed w now h =
-      record { number = ap (λ (o : Outcome). signedOf (o .answer)) (h .outcome); state = ap (λ (o : Outcome). o .state) (h .outcome); answers = h .answers }
+  -- of arrays with the places that their types say, the list is the one on a state by value
+  listed : isSized n s ≡ true → (w : Outcome) (now : List ℤ) → Serves n s l old w now → Lists n s l old (signedOf (w .answer)) (w .state) now
+  unfolding listedHere answeredHere
+  listed z w now h =
+      record { number = rw z (ap (λ (o : Outcome). signedOf (o .answer)) (h .outcome)); state = rw z (ap (λ (o : Outcome). o .state) (h .outcome)); answers = rw z (h .answers) }
 
-  pub list-unsound : isSound n s ≡ false → Lists n s l old (signedOf InvalidEntry) s old
-  list-unsound off = listed _ old (unsound n s l old off)
+  not-listed : isSized n s ≡ false → Lists n s l old (signedOf InvalidEntry) s old
+  unfolding listedHere answeredHere
+  not-listed e = record { number = rw e; state = rw e; answers = rw e }
 
-  module _ (on : isSound n s ≡ true) where
+  pub list-unsound : soundHere n s ≡ false → Lists n s l old (signedOf InvalidEntry) s old
+  list-unsound h = go (isSized n s) refl
+    where
+      go : (t : Bool) → isSized n s ≡ t → Lists n s l old (signedOf InvalidEntry) s old
+      go true e = listed e _ old (unsound n s l old (sym (ap (λ (t : Bool). t && isSound n s) e) ∙ h))
+      go false e = not-listed e
+
+  module _ (on : soundHere n s ≡ true) where
     pub list-unfitted : fitted l (length old) ≡ false → Lists n s l old (signedOf InvalidRequest) s old
-    list-unfitted off = listed _ old (unfitted n s l old on off)
+    list-unfitted off = let w = and-true _ _ on in listed (w .0) _ old (unfitted n s l old (w .1) off)
 
     pub list-done : fitted l (length old) ≡ true → (s′ : MemoryAllocator) (now : List ℤ) → Served n s l old s′ now → Lists n s l old (pos 0) s′ now
-    list-done fits s′ now h = listed _ now (done n s l old on s′ now fits h)
+    list-done fits s′ now h = let w = and-true _ _ on in listed (w .0) _ now (done n s l old (w .1) s′ now fits h)
 
 -- ---- images
 

@@ -1,2 +1,2 @@
 -- What the contracts of lists of calls on a state of one's own, and of images of it, cite.
-pub mod Copies
+pub mod Lists

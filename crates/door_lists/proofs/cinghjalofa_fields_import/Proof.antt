@@ -1,9 +1,9 @@
 use mathlib.Core.Path.{sym, _∙_}
 use Rattle.image_parts.specs.Layout.{current}
-use Rattle.door_copies.proofs.Copies.{import-done, import-refused}
+use Rattle.door_lists.proofs.Ways.{import-done, import-refused}
 use borrow.Author.Needs.{needs}
-use Rattle.door_copies.proofs.cinghjalofa_fields_import.Statement.{statement}
-use Rattle.door_copies.proofs.cinghjalofa_fields_import.Tie as tie
+use Rattle.door_lists.proofs.cinghjalofa_fields_import.Statement.{statement}
+use Rattle.door_lists.proofs.cinghjalofa_fields_import.Tie as tie
 
 is-image-requires : tie.Need-is-image-requires
 is-image-requires c κs = search needs

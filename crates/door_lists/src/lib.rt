@@ -4,7 +4,8 @@ use batch::list_fits;
 use batch::serve_list_in;
 use calls::INVALID_ENTRY;
 use check_state::is_sound_in;
-use fields::clear;
+use door_fields::clear;
+use door_fields::is_sound_lent;
 use image_parts::layout::IMAGE;
 use image_reading::read_current;
 use image_writing::write_fields;
@@ -18,11 +19,7 @@ ghost use Rattle.image_reading.specs.Reading.{readable};
 ghost use Rattle.pool_state.specs.Lent.{was, is, turns};
 ghost use Rattle.pool_state.specs.Shown.{pool};
 ghost use Rattle.pool_state.specs.State.{arrays};
-ghost use Rattle.door_copies.specs.Copies.{Lists, Imports, Exports};
-
-mod fields;
-
-pub use fields::state_of;
+ghost use Rattle.door_lists.specs.Lists.{Lists, Imports, Exports};
 
 const INVALID_REQUEST: i64 = -4;
 
@@ -44,23 +41,9 @@ pub extern "C" fn cinghjalofa_fields_batch(
 ) -> i64
     ensures { λ r. ⌜ turns (λ s s′. Lists pool s (was calls) (was answers) r s′ (is answers)) total first heads start end enabled previous next lprev lnext ⌝ }
 {
-    // Never used, and so left out by the compiler; but of an array behind a reference the logic does not know how many places it has, and of
-    // a copy it does.
-    let _places = state_of(
+    if is_sound_lent(
         *total,
         *first,
-        heads,
-        start,
-        end,
-        enabled,
-        previous,
-        next,
-        lprev,
-        lnext,
-    );
-    if is_sound_in(
-        *total,
-        RecordIndex(*first),
         heads,
         start,
         end,

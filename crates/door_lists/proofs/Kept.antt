@@ -5,6 +5,7 @@ use mathlib.Core.List.{List}
 use mathlib.Core.Path.{_≡_, refl, sym, ap, subst, _∙_}
 use lib.Dec.{eqb}
 use lib.IntN.{ℤ}
+use lib.ListN.{length}
 use borrow.Author.Tests.{eqb-true}
 use Rattle.linked_lists.specs.Links.{none}
 use Rattle.rules.specs.Rules.{Book}
@@ -14,17 +15,26 @@ use Rattle.pool_state.specs.declared.MemoryAllocator.{MemoryAllocator}
 use Rattle.pool_state.proofs.Book.{holds-sound, sound-holds}
 use Rattle.calls.specs.declared.Answer.the-variants.{Accepted, InvalidEntry}
 use Rattle.calls.specs.declared.Outcome.{Outcome}
+use Rattle.batch.specs.Lists.{listServed}
 use Rattle.batch.proofs.Histories.{list-sound}
+use Rattle.check_meaning.proofs.Exact.{sound-sized}
+use Rattle.door_fields.proofs.Sized.{sized-passes}
 use Rattle.bytes_be.specs.Numbers.{Bytes}
 use Rattle.image_parts.specs.Layout.{Layout, Lawful}
 use Rattle.image.specs.Reading.{Handed, readingOf}
 use Rattle.image.proofs.Rounds.{read-written, accepted-image}
-use Rattle.door_copies.specs.Copies.{Lists, imported, Imports}
+use Rattle.door_lists.specs.Lists.{listedHere, Lists, imported, Imports}
+
+module _ (n : ℕ) (small : n ≤ none) (s : MemoryAllocator) (good : SoundState n s) (l : List ℕ) (k : ℕ) where
+  listed-same : listedHere n s l k ≡ listServed n s l k
+  unfolding listedHere
+  listed-same = rw (sized-passes n s (sound-sized n small s good))
 
 pub list-keeps : (n : ℕ) → n ≤ none → (s s′ : MemoryAllocator) (l : List ℕ) (old now : List ℤ) (r : ℤ) → (b : Book) × Holds n b s → Lists n s l old r s′ now → (b : Book) × Holds n b s′
 list-keeps n small s s′ l old now r h j =
     let good = holds-sound n small (h .0) s (h .1) in
-    let left : SoundState n s′ = subst (SoundState n) (sym (j .state)) (list-sound n small s good (record { words = l; places = old })) in
+    let is = j .state ∙ ap (λ (o : Outcome). o .state) (listed-same n small s good l (length old)) in
+    let left : SoundState n s′ = subst (SoundState n) (sym is) (list-sound n small s good (record { words = l; places = old })) in
     (_, sound-holds n s′ left)
 
 module _ (f : Layout) (lawful : Lawful f) (l : List ℕ) (bytes : Bytes l) where
