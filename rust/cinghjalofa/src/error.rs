@@ -7,7 +7,7 @@ use core::fmt;
 pub enum MemoryError {
     /// A record is needed and all are in use.
     NoEntry,
-    /// The bytes are no image of a sound allocator.
+    /// The state, or the image, is not that of a sound allocator.
     InvalidEntry,
     /// Too few bytes are free, or no free range fits.
     NoMemory,

@@ -25,6 +25,16 @@ impl FreeRange {
     pub const fn size(&self) -> usize {
         self.last.wrapping_sub(self.start).wrapping_add(1)
     }
+
+    /// Whether the byte at this address is one of them.
+    ///
+    /// ```
+    /// let range = cinghjalofa::FreeRange { start: 0x2000, last: 0x2fff };
+    /// assert!(range.contains(0x2000) && range.contains(0x2fff) && !range.contains(0x3000));
+    /// ```
+    pub const fn contains(&self, address: usize) -> bool {
+        self.start <= address && address <= self.last
+    }
 }
 
 impl From<FreeRange> for RangeInclusive<usize> {
