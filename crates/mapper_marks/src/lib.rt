@@ -1,26 +1,50 @@
-// Tables that are reached, each marked where it is met: one that was marked before, or lies outside, is told. A mark stands for one page of a
-// window. A budget ends the run where there are more tables than pages.
+// Tables that are reached, each marked where it is met: one that was marked before, that lies outside the arena, or that is one too many is told.
+// The marks are those of one window of pages; of a page outside of it there is none.
 use mapper_arena::TABLE_WORDS;
 use mapper_arena::word_at;
 use mapper_words::is_table;
 use mapper_words::table_page;
+ghost use mathlib.Core.Bool.{true};
+ghost use mathlib.Core.Path.{_≡_};
+ghost use Prim.Native.Nat.{_+_, _^_, _≤_};
+ghost use Rattle.pool_state.specs.Lent.{was, is};
+ghost use Rattle.mapper_marks.specs.Marking.{isMarked, marked, run, meet, meetAll, tablesAt, tablesIn};
 
-pub const WINDOW: usize = 4096;
-
-// The arena's pages, from the lowest to before `past`, and the window's first.
+// The pages of the arena, from the lowest to before `past`, and the first of the window.
 pub struct Limits {
     pub lowest: u64,
     pub past: u64,
     pub lo: u64,
 }
 
-// Whether the page lies in the arena, was not marked and is within the budget; then it is marked.
-pub fn meet_page(
-    marks: &mut [bool; WINDOW],
-    left: &mut u64,
-    limits: Limits,
-    page: u64,
-) -> bool
+pub fn is_marked(marks: &[bool], lo: u64, page: u64) -> bool
+    ensures { λ r. ⌜ r ≡ isMarked lo (was marks) page ⌝ }
+{
+    if page < lo {
+        return false;
+    }
+    let k = (page - lo) as usize;
+    if k < marks.len() {
+        return marks[k];
+    }
+    false
+}
+
+pub fn set_mark(marks: &mut [bool], lo: u64, page: u64)
+    ensures { λ _. ⌜ is marks ≡ marked lo (was marks) page ⌝ }
+{
+    if page < lo {
+        return;
+    }
+    let k = (page - lo) as usize;
+    if k < marks.len() {
+        marks[k] = true;
+    }
+}
+
+// Whether the page is within the number that is left, lies inside and is not marked; then it is counted and marked.
+pub fn meet_page(marks: &mut [bool], left: &mut u64, limits: Limits, page: u64) -> bool
+    ensures { λ r. ⌜ run r (is left) (is marks) ≡ meet limits page (run true (was left) (was marks)) ⌝ }
 {
     if *left == 0 {
         return false;
@@ -32,15 +56,10 @@ pub fn meet_page(
         return false;
     }
     let lo = limits.lo;
-    if lo <= page {
-        let k = (page - lo) as usize;
-        if k < WINDOW {
-            if marks[k] {
-                return false;
-            }
-            marks[k] = true;
-        }
+    if is_marked(&marks[..], lo, page) {
+        return false;
     }
+    set_mark(marks, lo, page);
     *left -= 1;
     true
 }
@@ -49,13 +68,14 @@ pub fn meet_page(
 fn mark_at(
     arena: &[u64],
     first: u64,
-    marks: &mut [bool; WINDOW],
+    marks: &mut [bool],
     left: &mut u64,
     limits: Limits,
     height: u64,
     d: u64,
     fine: bool,
 ) -> bool
+    ensures { λ r. ⌜ run r (is left) (is marks) ≡ meetAll limits (tablesAt first (was arena) height d) (run fine (was left) (was marks)) ⌝ }
 {
     if fine {
         if height == 0 {
@@ -64,7 +84,17 @@ fn mark_at(
         if is_table(d) {
             let page = table_page(d);
             let met = meet_page(marks, left, limits, page);
-            return mark_in(arena, first, marks, left, limits, height - 1, TABLE_WORDS * page, TABLE_WORDS, met);
+            return mark_in(
+                arena,
+                first,
+                marks,
+                left,
+                limits,
+                height - 1,
+                TABLE_WORDS * page,
+                TABLE_WORDS,
+                met,
+            );
         }
         return true;
     }
@@ -75,7 +105,7 @@ fn mark_at(
 pub fn mark_in(
     arena: &[u64],
     first: u64,
-    marks: &mut [bool; WINDOW],
+    marks: &mut [bool],
     left: &mut u64,
     limits: Limits,
     height: u64,
@@ -83,6 +113,8 @@ pub fn mark_in(
     count: u64,
     fine: bool,
 ) -> bool
+    requires { ⌜ at + count ≤ 2 ^ 50 ⌝ }
+    ensures { λ r. ⌜ run r (is left) (is marks) ≡ meetAll limits (tablesIn first (was arena) height at count) (run fine (was left) (was marks)) ⌝ }
 {
     let mut all = fine;
     let mut j: u64 = 0;

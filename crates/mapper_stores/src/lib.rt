@@ -13,9 +13,15 @@ use mapper_words::table_page;
 use mapper_words::table_word;
 use mapper_words::word_fits;
 use mapper_words::word_meets;
+ghost use mathlib.Core.Path.{_≡_};
+ghost use Prim.Native.Nat.{_+_, _*_, _^_, _≤_};
+ghost use Rattle.pool_state.specs.Lent.{was, is};
+ghost use Rattle.mapper_rules.specs.Walk.{span};
+ghost use Rattle.mapper_stores.specs.Stores.{held, nextWord, madeTable, store, storeIn};
 
 // A page of the door becomes a table of zeros, and the word of number w leads to it; the answer is that word.
-fn fresh_table(image: &mut [u8], arena: &mut [u64], first: u64, w: u64) -> u64
+fn make_table(image: &mut [u8], arena: &mut [u64], first: u64, w: u64) -> u64
+    ensures { λ r. ⌜ (r ≡ nextWord (held (was arena) (was image))) × (held (is arena) (is image) ≡ madeTable first w (held (was arena) (was image))) ⌝ }
 {
     let taken = take_page(image);
     let d = table_word(page_address(taken));
@@ -25,7 +31,17 @@ fn fresh_table(image: &mut [u8], arena: &mut [u64], first: u64, w: u64) -> u64
 }
 
 // The entry in the word of number w, at a height, whose inputs begin at e.
-fn store_at(image: &mut [u8], arena: &mut [u64], first: u64, q: Mapping, height: u64, e: u64, w: u64)
+fn store_at(
+    image: &mut [u8],
+    arena: &mut [u64],
+    first: u64,
+    q: Mapping,
+    height: u64,
+    e: u64,
+    w: u64,
+)
+    requires { ⌜ (height ≤ 3) × (e + span height ≤ 2 ^ 50) ⌝ }
+    ensures { λ _. ⌜ held (is arena) (is image) ≡ store q first height e w (held (was arena) (was image)) ⌝ }
 {
     if word_meets(q, height, e) {
         if height == 0 {
@@ -38,11 +54,13 @@ fn store_at(image: &mut [u8], arena: &mut [u64], first: u64, q: Mapping, height:
         }
         let d = word_at(&arena[..], first, w);
         if is_table(d) {
-            store_in(image, arena, first, q, height - 1, e, TABLE_WORDS * table_page(d), TABLE_WORDS);
+            let at = TABLE_WORDS * table_page(d);
+            store_in(image, arena, first, q, height - 1, e, at, TABLE_WORDS);
             return;
         }
-        let made = fresh_table(image, arena, first, w);
-        store_in(image, arena, first, q, height - 1, e, TABLE_WORDS * table_page(made), TABLE_WORDS);
+        let made = make_table(image, arena, first, w);
+        let at = TABLE_WORDS * table_page(made);
+        store_in(image, arena, first, q, height - 1, e, at, TABLE_WORDS);
     }
 }
 
@@ -57,6 +75,8 @@ pub fn store_in(
     at: u64,
     count: u64,
 )
+    requires { ⌜ (height ≤ 3) × (e + count * span height ≤ 2 ^ 50) × (at + count ≤ 2 ^ 50) ⌝ }
+    ensures { λ _. ⌜ held (is arena) (is image) ≡ storeIn q first height e at count (held (was arena) (was image)) ⌝ }
 {
     let bytes = span_of(height);
     let mut j: u64 = 0;
