@@ -1,2 +1,3 @@
 -- What the proofs use.
 pub mod Painting
+pub mod Ranges

@@ -5,11 +5,12 @@ use mathlib.Core.Bool.{Bool, true, false, not, _&&_, _||_, or-true, or-false, or
 use mathlib.Core.List.{List}
 use Prim.Native.Nat.{ℕ, zero, suc, _+_, _-_, _/_, _≤_, _<_}
 use native.Mathlib.Omega.{arith}
+use native.Mathlib.Nat.{zero-add}
 use native.Mathlib.Numerals.{add-one}
 use lib.Dec.{T, leb, ltb, eqb, leb→le, ltb→lt, le→leb, lt→ltb, eqb→eq}
 use lib.ListN.{length, getD, set, length-set}
 use lib.Seq.{getD-set-same, getD-set-other}
-use Rattle.rules_laws.proofs.Lists.{and-i, and-l, and-r, same-test, T-or-not, T-true, T-false, T-no, neq}
+use Rattle.rules_laws.proofs.Lists.{and-i, and-l, and-r, same-test, T-or-not, T-true, T-false, neq}
 use Rattle.mapper_laws.specs.Tree.{some}
 use Rattle.mapper_free.specs.Free.{every, insideOf, allInside, touchesAt, touches, Adds}
 
@@ -38,13 +39,21 @@ between b i k l = elim (T-or-not (eqb i k)) [
       (λ t. let h = ltb→lt i (k + 1) t in lt→ltb i k (omega arith)) (λ t. let h = ltb→lt i k t in lt→ltb i (k + 1) (omega arith))) ∙ sym (or-false (leb b i && ltb i k)))
 ]
 
+nothing : (x y : Bool) → (T x → T y → ⊥) → (x && y) ≡ false
+nothing true true f = absurd (f tt tt)
+nothing true false f = refl
+nothing false y f = refl
+
+pub no-paint : (b e : ℕ) (m : List Bool) → e < b → Adds 0 (λ i. leb b i && ltb i e) m m
+no-paint b e m l = record { same-length = refl; marks = λ i h. rw (zero-add i) (sym (or-false (getD m i false))
+    ∙ ap (λ (x : Bool). getD m i false || x) (sym (nothing (leb b i) (ltb i e) (λ s t. let g = leb→le b i s in let k = ltb→lt i e t in let z : ⊥ = omega arith in z)))) }
+
 pub none-painted : (b : ℕ) (m : List Bool) (i : ℕ) → getD m i false ≡ (getD m i false || (leb b i && ltb i b))
-none-painted b m i = sym (or-false (getD m i false)) ∙ ap (λ (x : Bool). getD m i false || x) (sym (T-false (leb b i && ltb i b) (nothing (leb b i) (ltb i b) (λ s t. let l = leb→le b i s in let h = ltb→lt i b t in let z : ⊥ = omega arith in z))))
-  where
-    nothing : (x y : Bool) → (T x → T y → ⊥) → T (not (x && y))
-    nothing true true f = absurd (f tt tt)
-    nothing true false f = tt
-    nothing false y f = tt
+none-painted b m i = sym (or-false (getD m i false))
+    ∙ ap (λ (x : Bool). getD m i false || x) (sym (nothing (leb b i) (ltb i b) (λ s t. let l = leb→le b i s in let h = ltb→lt i b t in let z : ⊥ = omega arith in z)))
+
+pub kept-length : (m m₀ : List Bool) (k : ℕ) → length m ≡ length m₀ → length (set m k true) ≡ length m₀
+kept-length m m₀ k e = length-set {A = Bool} m k true ∙ e
 
 pub one-painted : (b k : ℕ) (m₀ m m′ : List Bool) → b ≤ k → k < length m₀ → length m ≡ length m₀ → ((i : ℕ) → i < length m₀ → getD m i false ≡ (getD m₀ i false || (leb b i && ltb i k))) → m′ ≡ set m k true
     → (i : ℕ) → i < length m₀ → getD m′ i false ≡ (getD m₀ i false || (leb b i && ltb i (k + 1)))
@@ -56,7 +65,7 @@ one-painted b k m₀ m m′ l few len marks e i h =
     ]
 
 pub all-painted : (b k e : ℕ) (m m′ : List Bool) → length m′ ≡ length m → ((i : ℕ) → i < length m → getD m′ i false ≡ (getD m i false || (leb b i && ltb i k))) → k ≡ e → Adds 0 (λ i. leb b i && ltb i e) m m′
-all-painted b k e m m′ len marks g = record { same-length = len; marks = λ i h. marks i h ∙ ap (λ (x : ℕ). getD m i false || (leb b i && ltb i x)) g }
+all-painted b k e m m′ len marks g = record { same-length = len; marks = λ i h. rw (zero-add i) (marks i h ∙ ap (λ (x : ℕ). getD m i false || (leb b i && ltb i x)) g) }
 
 -- ---- none, more, and others of the same pages
 
@@ -80,12 +89,7 @@ module _ (lo from to : ℕ) (m m′ : List Bool) where
   pages p = leb from p && leb p to
 
   pub before-them : to < lo → Adds lo pages m m
-  before-them l = adds-none lo m pages (λ i h. T-false (pages (lo + i)) (nothing (leb from (lo + i)) (leb (lo + i) to) (λ s t. let g = leb→le (lo + i) to t in let z : ⊥ = omega arith in z)))
-    where
-      nothing : (x y : Bool) → (T x → T y → ⊥) → T (not (x && y))
-      nothing true true f = absurd (f tt tt)
-      nothing true false f = tt
-      nothing false y f = tt
+  before-them l = adds-none lo m pages (λ i h. nothing (leb from (lo + i)) (leb (lo + i) to) (λ s t. let g = leb→le (lo + i) to t in let z : ⊥ = omega arith in z))
 
   -- a is the place of the first; e that after the last, or after the last mark of all
   module _ (a e : ℕ) (begins : a ≡ from - lo) (low : lo ≤ to) where
@@ -95,10 +99,10 @@ module _ (lo from to : ℕ) (m m′ : List Bool) where
         (λ t. let s = leb→le from (lo + i) (and-l (leb from (lo + i)) (leb (lo + i) to) t) in and-i (leb a i) (ltb i e) (le→leb a i (omega arith)) (lt→ltb i e (left (leb→le (lo + i) to (and-r (leb from (lo + i)) (leb (lo + i) to) t)))))
 
     pub up-to-them : e ≡ to - lo + 1 → Adds 0 (λ i. leb a i && ltb i e) m m′ → Adds lo pages m m′
-    up-to-them ends adds = adds-same lo m 0 (λ i. leb a i && ltb i e) pages m′ adds (λ i h. both i h ((λ l. omega arith), (λ l. omega arith)))
+    up-to-them ends adds = adds-same lo m 0 (λ i. leb a i && ltb i e) pages m′ adds (λ i h. rw (zero-add i) (both i h ((λ l. omega arith), (λ l. omega arith))))
 
     pub up-to-all : e ≡ length m → length m ≤ to - lo → Adds 0 (λ i. leb a i && ltb i e) m m′ → Adds lo pages m m′
-    up-to-all ends far adds = adds-same lo m 0 (λ i. leb a i && ltb i e) pages m′ adds (λ i h. both i h ((λ l. omega arith), (λ l. omega arith)))
+    up-to-all ends far adds = adds-same lo m 0 (λ i. leb a i && ltb i e) pages m′ adds (λ i h. rw (zero-add i) (both i h ((λ l. omega arith), (λ l. omega arith))))
 
 -- ---- those of one range after another
 

@@ -1,36 +1,45 @@
+use mathlib.Core.Path.{_≡_, refl, sym, _∙_}
+use Rattle.pool_state.specs.Shown.{pool}
+use Rattle.pool_state.proofs.States.{fresh-state}
+use Rattle.linked_lists.proofs.Laws.{true≢false}
+use Rattle.mapper_free.proofs.Ranges.{read-ordered}
 use borrow.Author.Needs.{needs}
 use Rattle.mapper_free.proofs.free_ranges.Statement.{statement}
 use Rattle.mapper_free.proofs.free_ranges.Tie as tie
-use Rattle.mapper_free.proofs.free_ranges.Reads as reads
-use Rattle.mapper_free.proofs.free_ranges.Lts as lts
-use Rattle.image_reading.proofs.read_fields.Reads as read-fields-reads
-use Rattle.pool_listing.proofs.list_in.Reads as list-in-reads
 
--- src/lib.rt:33:9
 read-fields-requires : tie.Need-read-fields-requires
-read-fields-requires c κs = ?
+read-fields-requires c κs = fresh-state pool
 
--- src/lib.rt:47:9
 list-in-requires : tie.Need-list-in-requires
-list-in-requires c κs = ?
+list-in-requires c κs =
+    let then = c .before .before .before .before .before in
+    let read = then .before .read-fields .ensures in
+    (_, read-ordered _ _ (sym (read .told) ∙ then .if1 .taken) (read .state (then .if1 .taken)))
 
--- src/lib.rt:47:9
 same-length : tie.Need-same-length
 same-length c = search needs
 
--- src/lib.rt:47:9
 same-length-2 : tie.Need-same-length-2
 same-length-2 c = search needs
 
--- src/lib.rt:47:9
 returns : tie.Need-returns
-returns c = ?
+returns c =
+    let listed = c .before .before .before .before in
+    let then = listed .before .before .before .before .before .before in
+    let read = then .before .read-fields .ensures in
+    let good = sym (read .told) ∙ then .if1 .taken in
+    record { unsound = λ bad. absurd (true≢false (sym good ∙ bad)); sound = λ _. listed .list-in .ensures _ (read-ordered _ _ good (read .state (then .if1 .taken))) }
 
--- src/lib.rt:20:1
 returns-2 : tie.Need-returns-2
-returns-2 c = ?
+returns-2 c = record { unsound = λ _. refl; sound = λ good. absurd (true≢false (sym good ∙ sym (c .before .read-fields .ensures .told) ∙ c .if1 .left)) }
 
 pub free-ranges-spec : {M : Type 1} → statement M
 free-ranges-spec =
     tie.close
-    (tie.spec read-fields-requires list-in-requires same-length same-length-2 returns returns-2)
+    (tie.spec
+    read-fields-requires
+    list-in-requires
+    same-length
+    same-length-2
+    returns
+    returns-2)
