@@ -1,13 +1,14 @@
 -- A map on each way through its passes. Assumes nothing.
-use mathlib.Core.Path.{_≡_, refl, sym, _∙_, ap}
+use mathlib.Core.Path.{_≡_, refl, sym, _∙_, ap, subst}
 use mathlib.Core.Bool.{Bool, true, false, not, cond}
 use mathlib.Core.List.{List}
 use Prim.Native.Nat.{ℕ, _+_, _*_, _/_, _^_, _≤_}
 use native.Mathlib.Omega.{arith}
 use lib.Dec.{T, eqb}
 use lib.IntN.{ℤ, pos, negsuc}
-use lib.ListN.{length}
+use lib.ListN.{length, replicate, length-replicate}
 use borrow.Author.Tests.{eq-eqb, ne-eqb}
+use Rattle.linked_lists.proofs.Laws.{true≢false}
 use Rattle.image_parts.specs.Layout.{current, imageSize}
 use Rattle.c_calls.specs.CCalls.{Returned, returned}
 use Rattle.mapper_rules.specs.Walk.{span, inputTop}
@@ -25,8 +26,11 @@ use Rattle.mapper_lies.proofs.Tops.{Small, small-top}
 use Rattle.mapper.specs.Maps.{Left, left, refuse, inTheWay, tried, stored, finished, mapOver}
 
 to-T : (c : Bool) → c ≡ false → T (not c)
-to-T true ()
+to-T true e = true≢false e
 to-T false e = tt
+
+pub fresh-copy : length (replicate {A = ℕ} (imageSize current) 0) ≡ imageSize current
+fresh-copy = length-replicate {A = ℕ} (imageSize current) 0
 
 -- ---- after the numbers, the image and the tables
 
@@ -87,13 +91,24 @@ module _ (base vttbr vtcr output input size : ℕ) (readable writable : Bool) (l
       pub sum-fits : input + size ≤ 2 ^ 48
       sum-fits = let i = is-asked .inside in let e = top-of vttbr vtcr right-registers .inputs in let s = small .inputs in omega arith
 
-      pub lies-wrong : (c : Bool) → c ≡ lies base (topOf vttbr vtcr) l A → c ≡ false → left (negsuc 1) l A ≡ whole
-      unfolding mapOver refuse
-      lies-wrong c k e = rw (eq-eqb (length l) (imageSize current) len, sym told ∙ good, sym k ∙ e)
+      pub lies-asks : (t : Top) → t ≡ topOf vttbr vtcr → (t .page + t .pages ≤ 2 ^ 40) × (t .word + t .entries ≤ 2 ^ 50)
+      lies-asks t e = subst (λ (x : Top). (x .page + x .pages ≤ 2 ^ 40) × (x .word + x .entries ≤ 2 ^ 50)) (sym e) (small .pages, small .words)
 
-      pub lies-right : (c : Bool) → c ≡ lies base (topOf vttbr vtcr) l A → c ≡ true → (p : ℕ) → p ≡ permissionOf readable writable → (r : Left)
-          → r ≡ judged (record { from = input; past = input + size; out = output; permission = p }) (base / 8) (topOf vttbr vtcr) l A → r ≡ whole
-      unfolding mapOver refuse
-      lies-right c k e p pe r j =
-          j ∙ ap (λ (x : ℕ). judged (record { from = input; past = input + size; out = output; permission = x }) (base / 8) (topOf vttbr vtcr) l A) pe
-          ∙ rw (eq-eqb (length l) (imageSize current) len, sym told ∙ good, sym k ∙ e)
+      pub map-asks : (t : Top) → t ≡ topOf vttbr vtcr → (length l ≡ imageSize current) × (t .height ≤ 3) × (t .entries * span (t .height) ≤ 2 ^ 48) × (t .word + t .entries ≤ 2 ^ 50)
+      map-asks t e = subst (λ (x : Top). (length l ≡ imageSize current) × (x .height ≤ 3) × (x .entries * span (x .height) ≤ 2 ^ 48) × (x .word + x .entries ≤ 2 ^ 50)) (sym e) (len, small .level, small .inputs, small .words)
+
+      module _ (t : Top) (top : t ≡ topOf vttbr vtcr) (c : Bool) (lying : c ≡ lies base t l A) where
+        it-lies : lies base (topOf vttbr vtcr) l A ≡ c
+        it-lies = sym (lying ∙ ap (λ (x : Top). lies base x l A) top)
+
+        pub lies-wrong : c ≡ false → left (negsuc 1) l A ≡ whole
+        unfolding mapOver refuse
+        lies-wrong e = rw (eq-eqb (length l) (imageSize current) len, sym told ∙ good, it-lies ∙ e)
+
+        pub lies-right : c ≡ true → (p : ℕ) → p ≡ permissionOf readable writable → (r : Left)
+            → r ≡ judged (record { from = input; past = input + size; out = output; permission = p }) (base / 8) t l A → r ≡ whole
+        unfolding mapOver refuse
+        lies-right e p pe r j =
+            j ∙ ap (λ (x : ℕ). judged (record { from = input; past = input + size; out = output; permission = x }) (base / 8) t l A) pe
+            ∙ ap (λ (x : Top). judged (mappingOf output input size readable writable) (base / 8) x l A) top
+            ∙ rw (eq-eqb (length l) (imageSize current) len, sym told ∙ good, it-lies ∙ e)
