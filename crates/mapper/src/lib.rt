@@ -44,7 +44,16 @@ fn map_lying(image: &mut [u8], arena: &mut [u64], first: u64, top: Top, q: Mappi
     requires { ⌜ (length (now image) ≡ imageSize current) × (top .height ≤ 3) × (top .entries * span (top .height) ≤ 2 ^ 48) × (top .word + top .entries ≤ 2 ^ 50) ⌝ }
     ensures { λ r. ⌜ left r (is image) (is arena) ≡ refuse (inTheWay q first top (was arena)) (negsuc 3) (was image) (was arena) (finished q first top (was image) (was arena)) ⌝ }
 {
-    let blocked = block_in(&arena[..], first, q, top.height, 0, top.word, top.entries, false);
+    let blocked = block_in(
+        &arena[..],
+        first,
+        q,
+        top.height,
+        0,
+        top.word,
+        top.entries,
+        false,
+    );
     if blocked {
         return INVALID_REQUEST;
     }

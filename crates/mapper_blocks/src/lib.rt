@@ -29,15 +29,7 @@ pub fn word_opens(q: Mapping, height: u64, e: u64) -> bool
 }
 
 // The entry d at a height, and all that it leads to; `found` tells whether a block was found before.
-fn block_at(
-    arena: &[u64],
-    first: u64,
-    q: Mapping,
-    height: u64,
-    e: u64,
-    d: u64,
-    found: bool,
-) -> bool
+fn block_at(arena: &[u64], first: u64, q: Mapping, height: u64, e: u64, d: u64, found: bool) -> bool
     requires { ⌜ (height ≤ 3) × (e + span height ≤ 2 ^ 50) ⌝ }
     ensures { λ r. ⌜ r ≡ (found || blockedAt q first (now (arena .entry)) height e d) ⌝ }
 {

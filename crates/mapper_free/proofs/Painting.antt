@@ -45,8 +45,11 @@ nothing true false f = refl
 nothing false y f = refl
 
 pub no-paint : (b e : ℕ) (m : List Bool) → e < b → Adds 0 (λ i. leb b i && ltb i e) m m
-no-paint b e m l = record { same-length = refl; marks = λ i h. rw (zero-add i) (sym (or-false (getD m i false))
-    ∙ ap (λ (x : Bool). getD m i false || x) (sym (nothing (leb b i) (ltb i e) (λ s t. let g = leb→le b i s in let k = ltb→lt i e t in let z : ⊥ = omega arith in z)))) }
+no-paint b e m l = record {
+  same-length = refl;
+  marks = λ i h. rw (zero-add i) (sym (or-false (getD m i false))
+      ∙ ap (λ (x : Bool). getD m i false || x) (sym (nothing (leb b i) (ltb i e) (λ s t. let g = leb→le b i s in let k = ltb→lt i e t in let z : ⊥ = omega arith in z))));
+}
 
 pub none-painted : (b : ℕ) (m : List Bool) (i : ℕ) → getD m i false ≡ (getD m i false || (leb b i && ltb i b))
 none-painted b m i = sym (or-false (getD m i false))

@@ -89,10 +89,32 @@ fn ask_at(
     if word_opens(q, height, e) {
         if is_table(d) {
             let at = TABLE_WORDS * table_page(d);
-            return ask_in(arena, first, image, q, height - 1, e, at, TABLE_WORDS, false, enough);
+            return ask_in(
+                arena,
+                first,
+                image,
+                q,
+                height - 1,
+                e,
+                at,
+                TABLE_WORDS,
+                false,
+                enough,
+            );
         }
         let had = ask_page(image, enough);
-        return ask_in(arena, first, image, q, height - 1, e, 0, TABLE_WORDS, true, had);
+        return ask_in(
+            arena,
+            first,
+            image,
+            q,
+            height - 1,
+            e,
+            0,
+            TABLE_WORDS,
+            true,
+            had,
+        );
     }
     enough
 }

@@ -66,7 +66,11 @@ fn window_apart(
     ensures { λ r. ⌜ r ≡ (fine && apartIn low high (touches (was starts) (was lasts) count) (reachedIn first (was arena) top) lo) ⌝ }
 {
     if fine {
-        let limits = Limits { lowest: low, past: high, lo };
+        let limits = Limits {
+            lowest: low,
+            past: high,
+            lo,
+        };
         let mut marks = [false; WINDOW];
         let mut left = high - low;
         mark_free(&mut marks, lo, starts, lasts, count);

@@ -276,9 +276,12 @@ mark-in-loop-again t c =
     let done = c .before .before in
     let met = done .before .before .before in
     let loop = met .before .before in
-    let s = loop .before .before .before .args in
-    (omega arith, done .mark-at .kept .1 .1 .0 ∙ loop .loop .inv .1, one-more (s .limits) (s .first) (s .arena .now) (s .height) (s .at) (run (s .fine) (s .left .now) (s .marks .now)) (loop .loop .j) _
-    (run (loop .loop .all) (loop .loop .left) (loop .loop .marks)) _ (met .word-at .ensures) (loop .loop .inv .2) (done .mark-at .ensures))
+    let s = loop .before .before .before .args in (
+      omega arith,
+      done .mark-at .kept .1 .1 .0 ∙ loop .loop .inv .1,
+      one-more (s .limits) (s .first) (s .arena .now) (s .height) (s .at) (run (s .fine) (s .left .now) (s .marks .now)) (loop .loop .j) _
+          (run (loop .loop .all) (loop .loop .left) (loop .loop .marks)) _ (met .word-at .ensures) (loop .loop .inv .2) (done .mark-at .ensures),
+    )
 
 -- src/lib.rt:105:1
 mark-in-same-length : (t : ℕ) → mark-in-lts.Need-same-length (

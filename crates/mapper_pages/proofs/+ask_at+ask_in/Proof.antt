@@ -435,9 +435,12 @@ ask-in-loop-again t c =
     let met = done .before .before in
     let loop = met .before .before in
     let start = loop .before .before .before .before in
-    let s = start .args in
-    (omega arith, done .ask-at .kept .1 .1 .0 ∙ loop .loop .inv .1, one-more (s .q) (s .first) (s .arena .now) (s .fresh) (s .height) (s .e) (s .at) (supply (s .enough) (s .image .now)) (loop .loop .j) _ _
-    (supply (loop .loop .had) (loop .loop .image)) (stride _ _ (start .pre .1 .0) (loop .before .span-of .ensures)) (met .word-in .ensures) (loop .loop .inv .2) (done .ask-at .ensures))
+    let s = start .args in (
+      omega arith,
+      done .ask-at .kept .1 .1 .0 ∙ loop .loop .inv .1,
+      one-more (s .q) (s .first) (s .arena .now) (s .fresh) (s .height) (s .e) (s .at) (supply (s .enough) (s .image .now)) (loop .loop .j) _ _
+          (supply (loop .loop .had) (loop .loop .image)) (stride _ _ (start .pre .1 .0) (loop .before .span-of .ensures)) (met .word-in .ensures) (loop .loop .inv .2) (done .ask-at .ensures),
+    )
 
 -- src/lib.rt:101:1
 ask-in-same-length : (t : ℕ) → ask-in-lts.Need-same-length (

@@ -843,9 +843,13 @@ store-in-loop-again t c =
     let done = c .before .before .before .before in
     let loop = done .before .before .before .before in
     let start = loop .before .before .before .before in
-    let s = start .args in
-    (omega arith, done .store-at .kept .0 ∙ loop .loop .inv .1, done .store-at .kept .1 .0 ∙ loop .loop .inv .2, one-more (s .q) (s .first) (s .height) (s .e) (s .at) (held (s .arena .now) (s .image .now)) (loop .loop .j) _ (held (loop .loop .arena) (loop .loop .image)) _
-    (stride _ _ (start .pre .1 .0) (loop .before .span-of .ensures)) (loop .loop .inv .3) (done .store-at .ensures))
+    let s = start .args in (
+      omega arith,
+      done .store-at .kept .0 ∙ loop .loop .inv .1,
+      done .store-at .kept .1 .0 ∙ loop .loop .inv .2,
+      one-more (s .q) (s .first) (s .height) (s .e) (s .at) (held (s .arena .now) (s .image .now)) (loop .loop .j) _ (held (loop .loop .arena) (loop .loop .image)) _
+          (stride _ _ (start .pre .1 .0) (loop .before .span-of .ensures)) (loop .loop .inv .3) (done .store-at .ensures),
+    )
 
 -- src/lib.rt:68:1
 store-in-same-length : (t : ℕ) → store-in-lts.Need-same-length (

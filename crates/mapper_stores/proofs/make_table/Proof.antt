@@ -50,11 +50,10 @@ returns c =
     let word = cleared .before .before in
     let taken = word .before .before .before .before in
     let s = taken .before .before .before .before .args in
-    let same = toZ-ofZ {w = w64} (record { sfits = taken .take-page .ok }) in
-    (
+    let same = toZ-ofZ {w = w64} (record { sfits = taken .take-page .ok }) in (
       next-word (s .arena .now) (s .image .now) _ (taken .take-page .result) _ _ _ (taken .take-page .ensures) same (word .before .page-address .ensures) (word .table-word .ensures),
       made-table (s .arena .now) (s .image .now) _ (taken .take-page .result) _ _ _ (taken .take-page .ensures) same (word .before .page-address .ensures) (word .table-word .ensures)
-      (s .first) (s .w) _ _ (cleared .clear-table .ensures) (put .put-word .ensures),
+          (s .first) (s .w) _ _ (cleared .clear-table .ensures) (put .put-word .ensures),
     )
 
 pub make-table-spec : {M : Type 1} → statement M
