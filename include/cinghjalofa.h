@@ -147,6 +147,28 @@ int64_t cinghjalofa_allocate_pages(uint8_t *image, size_t len, uint64_t count, u
 int64_t cinghjalofa_free_pages(uint8_t *image, size_t len, uint64_t address, uint64_t count);
 
 /*
+ * Maps `map_size` bytes of stage 2 inputs from `intermediate_physical_address` on to the outputs from `physical_address`
+ * on, in the tables that VTTBR_EL2 and VTCR_EL2 name: mapped addresses translate as asked, all others as before. Fresh
+ * tables are pages of the allocator, as cinghjalofa_allocate_pages hands them out. Answers 0.
+ *   `arena` points to `arena_words` words that may be read and written, aligned to 8: the memory in which all tables and all
+ *   free bytes of the allocator lie. Its first byte has the address `arena_base`. It does not overlap the image.
+ *   The TLB is the caller's: after 0 it flushes the stage 2 entries (dsb ishst; tlbi alle1is; dsb ish; isb).
+ *   -2  len is not CINGHJALOFA_IMAGE_BYTES
+ *   -4  T0SZ outside 16 to 24 at level 0, 21 to 33 at level 1, 30 to 39 at level 2, or level 3; a top table that is not aligned
+ *       to its whole size; arena_base, map_size or an address no multiple of 4096; map_size 0; an output past 2^48; an input
+ *       past 2^(64-T0SZ)
+ *   -2  the image is not sound; a table or a free byte outside the arena, or from 2^48 on; a table that is reached twice, or on
+ *       free bytes
+ *   -4  a block stands where a table is wanted
+ *   -3, -1  a page for a table is not to be had, as cinghjalofa_allocate_pages answers
+ * A refusal changes no byte of the image and no word of the arena.
+ */
+int64_t cinghjalofa_map_address_stage2(uint8_t *image, size_t len, uint64_t *arena, size_t arena_words, uint64_t arena_base,
+                                       uint64_t vttbr_el2, uint64_t vtcr_el2, uint64_t physical_address,
+                                       uint64_t intermediate_physical_address, uint64_t map_size, bool is_readable,
+                                       bool is_writable);
+
+/*
  * Serves the `words / 4` calls of a list in order, and writes the answer of each, as the call made singly would answer it,
  * to its place in `answers`. The image is read, checked and written once, whatever the length of the list. Answers 0,
  * however many of the calls were refused.

@@ -99,6 +99,20 @@ foreign! { _;
     pub fn cinghjalofa_free(image: *mut u8, len: usize, start: u64, size: u64) -> i64;
     pub fn cinghjalofa_allocate_pages(image: *mut u8, len: usize, count: u64, order: u64) -> i64;
     pub fn cinghjalofa_free_pages(image: *mut u8, len: usize, address: u64, count: u64) -> i64;
+    pub fn cinghjalofa_map_address_stage2(
+        image: *mut u8,
+        len: usize,
+        arena: *mut u64,
+        arena_words: usize,
+        arena_base: u64,
+        vttbr_el2: u64,
+        vtcr_el2: u64,
+        physical_address: u64,
+        intermediate_physical_address: u64,
+        map_size: u64,
+        is_readable: bool,
+        is_writable: bool,
+    ) -> i64;
     pub fn cinghjalofa_batch(
         image: *mut u8,
         len: usize,
@@ -308,6 +322,46 @@ pub fn allocate_pages(image: &mut [u8], count: u64, order: u64) -> i64 {
 /// - -1: they touch no free range and all records are used
 pub fn free_pages(image: &mut [u8], address: u64, count: u64) -> i64 {
     unsafe { cinghjalofa_free_pages(image.as_mut_ptr(), image.len(), address, count) }
+}
+
+/// Maps `map_size` bytes of stage 2 inputs from `intermediate_physical_address` on to the outputs from `physical_address` on, in
+/// the tables that VTTBR_EL2 and VTCR_EL2 name: mapped addresses translate as asked, all others as before. The arena is the memory
+/// in which all tables and all free bytes of the allocator lie; its first byte has the address `base`. The caller flushes
+/// the TLB after 0. Answers 0.
+/// - -2: the slice is not `IMAGE_BYTES` long
+/// - -4: the registers, a size or an address that request T-09 refuses, or a sum past 2^48 or past 2^(64-T0SZ)
+/// - -2: the image is not sound, a table or a free byte is outside the arena, or a table is reached twice or is on free bytes
+/// - -4: a block stands where a table is wanted
+/// - -3, -1: a page for a table is not to be had, as `allocate_pages` answers
+#[allow(clippy::too_many_arguments)]
+pub fn map_address_stage2(
+    image: &mut [u8],
+    arena: &mut [u64],
+    base: u64,
+    vttbr_el2: u64,
+    vtcr_el2: u64,
+    physical_address: u64,
+    intermediate_physical_address: u64,
+    map_size: u64,
+    is_readable: bool,
+    is_writable: bool,
+) -> i64 {
+    unsafe {
+        cinghjalofa_map_address_stage2(
+            image.as_mut_ptr(),
+            image.len(),
+            arena.as_mut_ptr(),
+            arena.len(),
+            base,
+            vttbr_el2,
+            vtcr_el2,
+            physical_address,
+            intermediate_physical_address,
+            map_size,
+            is_readable,
+            is_writable,
+        )
+    }
 }
 
 /// Serves the `calls.len() / 4` calls of a list in order, and writes the answer of each, as the call made singly would answer

@@ -1,6 +1,6 @@
 -- The promises of images and of the C calls, each where it is proved. Assumes nothing.
-use Rattle.image_parts.specs.Layout.{Layout, current}
-use Rattle.image_parts.proofs.Lawful.{Lawful, lawful-current}
+use Rattle.image_parts.specs.Layout.{Layout, current, Lawful}
+use Rattle.image_parts.proofs.Lawful.{lawful-current}
 use Rattle.image.proofs.Rounds.{read-written, written-read, refused-exactly}
 use Rattle.c_calls.proofs.Demand.{new-written}
 use Rattle.c_calls.proofs.Refusals.{refusal-unchanged, wrong-length, no-image}

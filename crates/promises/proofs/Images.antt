@@ -10,8 +10,8 @@ use Rattle.rules_engine.specs.Engine.{after, vouchers}
 use Rattle.rules_engine.specs.Demand.{left}
 use Rattle.pages.specs.Calls.{byteCall}
 use Rattle.batch.specs.Histories.{callsIn, vouchersIn}
-use Rattle.image_parts.specs.Layout.{Layout, imageSize}
-use Rattle.image_parts.proofs.Lawful.{Lawful, small-pool}
+use Rattle.image_parts.specs.Layout.{Layout, imageSize, Lawful}
+use Rattle.image_parts.proofs.Lawful.{small-pool}
 use Rattle.image.specs.Writing.{Image}
 use Rattle.image.proofs.Fitting.{sound-fits}
 use Rattle.image.proofs.ReadBack.{frame-back}

@@ -36,6 +36,26 @@ pub(crate) fn free_pages(image: &mut [u8], address: usize, count: usize) -> Resu
     result_of(library::free_pages(image, address as u64, count as u64)).map(|_| ())
 }
 
+#[allow(clippy::too_many_arguments)]
+pub(crate) fn map_address_stage2(
+    image: &mut [u8],
+    arena: &mut [u64],
+    base: usize,
+    vttbr_el2: u64,
+    vtcr_el2: u64,
+    physical_address: usize,
+    intermediate_physical_address: usize,
+    map_size: usize,
+    is_readable: bool,
+    is_writable: bool,
+) -> Result<(), MemoryError> {
+    let (output, input, size) = (physical_address as u64, intermediate_physical_address as u64, map_size as u64);
+    let number = library::map_address_stage2(
+        image, arena, base as u64, vttbr_el2, vtcr_el2, output, input, size, is_readable, is_writable,
+    );
+    result_of(number).map(|_| ())
+}
+
 pub(crate) fn batch(image: &mut [u8], calls: &[u64], answers: &mut [i64]) -> i64 {
     library::batch(image, calls, answers)
 }

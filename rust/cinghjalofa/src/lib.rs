@@ -116,6 +116,26 @@ impl<'a> LentAllocator<'a> {
         calls::free_pages(self.image, address, count)
     }
 
+    /// See [`MemoryAllocator::map_address_stage2`].
+    #[allow(clippy::too_many_arguments)]
+    pub fn map_address_stage2(
+        &mut self,
+        arena: &mut [u64],
+        base: usize,
+        vttbr_el2: u64,
+        vtcr_el2: u64,
+        physical_address: usize,
+        intermediate_physical_address: usize,
+        map_size: usize,
+        is_readable: bool,
+        is_writable: bool,
+    ) -> Result<(), MemoryError> {
+        let (output, input) = (physical_address, intermediate_physical_address);
+        calls::map_address_stage2(
+            self.image, arena, base, vttbr_el2, vtcr_el2, output, input, map_size, is_readable, is_writable,
+        )
+    }
+
     /// See [`MemoryAllocator::serve`].
     pub fn serve(&mut self, list: &[Call], answers: &mut [CallAnswer]) -> Result<(), MemoryError> {
         list::serve(list, answers, |words, places| calls::batch(self.image, words, places))

@@ -126,6 +126,43 @@ impl MemoryAllocator {
         self.call(FREE_PAGES, address, count, 0).map(|_| ())
     }
 
+    /// Maps `map_size` bytes of stage 2 inputs, from `intermediate_physical_address` on, to the outputs from `physical_address` on, in
+    /// the tables that VTTBR_EL2 and VTCR_EL2 name: mapped addresses translate as asked, all others as before. Fresh tables are pages
+    /// of this allocator. `arena` is the memory in which all tables and all free bytes lie, and `base` the address of its first byte.
+    /// After `Ok` the caller flushes the TLB. A refusal changes neither the allocator nor a word of the arena.
+    ///
+    /// `InvalidRequest` for registers, sizes and addresses that cannot be, and for a block that stands where a table is wanted;
+    /// `InvalidEntry` for a table or a free byte outside the arena, and for a table that is reached twice or is on free bytes.
+    ///
+    /// ```
+    /// let mut arena = vec![0u64; 16 * 512];
+    /// let mut memory = cinghjalofa::MemoryAllocator::new();
+    /// memory.free_pages(0x4000_8000, 8).unwrap();
+    /// memory.map_address_stage2(&mut arena, 0x4000_0000, 0x4000_0000, 0x60, 0x8000_0000, 0x1000, 4096, true, true).unwrap();
+    /// assert_eq!(arena[0], 0x4000_8403); // a table at the first free page, and one below it
+    /// assert_eq!(arena[9 * 512 + 1], 0x8000_07ff);
+    /// ```
+    #[allow(clippy::too_many_arguments)]
+    pub fn map_address_stage2(
+        &mut self,
+        arena: &mut [u64],
+        base: usize,
+        vttbr_el2: u64,
+        vtcr_el2: u64,
+        physical_address: usize,
+        intermediate_physical_address: usize,
+        map_size: usize,
+        is_readable: bool,
+        is_writable: bool,
+    ) -> Result<(), MemoryError> {
+        let mut image = self.image();
+        let (output, input) = (physical_address, intermediate_physical_address);
+        crate::calls::map_address_stage2(
+            &mut image, arena, base, vttbr_el2, vtcr_el2, output, input, map_size, is_readable, is_writable,
+        )?;
+        result_of(self.own.import(&image)).map(|_| ())
+    }
+
     /// Serves a list of calls in order, and writes the answer of each to its place: the state is checked once.
     /// The answers, and the state, are those of the calls made singly, wherever the list is cut.
     /// `InvalidRequest`, and nothing changed, where there are fewer places than calls; places past the list stay as they are.

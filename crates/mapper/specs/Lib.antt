@@ -1,0 +1,2 @@
+-- What the contracts cite of a map.
+pub mod Maps

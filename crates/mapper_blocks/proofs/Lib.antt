@@ -1,0 +1,3 @@
+-- What the proofs use.
+pub mod Strides
+pub mod Blocks

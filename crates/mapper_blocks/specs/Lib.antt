@@ -1,0 +1,2 @@
+-- What the contracts cite of blocks in the way.
+pub mod Blocks

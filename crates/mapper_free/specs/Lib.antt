@@ -1,0 +1,2 @@
+-- What the contracts cite of the free ranges of an image.
+pub mod Free

@@ -1,0 +1,3 @@
+-- What the proofs use.
+pub mod Tops
+pub mod Listing

@@ -1,0 +1,2 @@
+-- What the contracts cite of marks.
+pub mod Marking

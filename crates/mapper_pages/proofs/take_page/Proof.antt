@@ -1,0 +1,74 @@
+use mathlib.Core.List.{[], _∷_}
+use mathlib.Core.Path.{ap, _∙_}
+use lib.IntN.{ℤ, pos}
+use mir.Syntax.{w64}
+use mir.Val.{toZ, ofZ}
+use mir.Facts.{toZ-ofZ}
+use Rattle.image_parts.specs.Layout.{current}
+use Rattle.image_parts.proofs.Lawful.{lawful-current}
+use Rattle.batch.specs.InWords.{wordsOf}
+use Rattle.calls.specs.declared.Request.the-variants.{Allocate}
+use Rattle.c_calls.specs.CCalls.{returned}
+use Rattle.c_calls.specs.Lists.{BatchOver}
+use Rattle.c_calls.proofs.Batches.{same-list, list-refused, list-served}
+use Rattle.mapper_pages.proofs.Asking.{page-call}
+use borrow.Author.Needs.{needs}
+use Rattle.mapper_pages.proofs.take_page.Statement.{statement}
+use Rattle.mapper_pages.proofs.take_page.Tie as tie
+
+words-of-requires : tie.Need-words-of-requires
+words-of-requires c κs = search needs
+
+slice-aggregate-list-over : tie.Need-slice-aggregate-list-over
+slice-aggregate-list-over c = search needs
+
+slice-aggregate-list-over-2 : tie.Need-slice-aggregate-list-over-2
+slice-aggregate-list-over-2 c = search needs
+
+list-over-requires : tie.Need-list-over-requires
+list-over-requires c κs = search needs
+
+-- the list was that of one page, and its number is what was returned
+listed : (c : tie.After-list-over) → let start = c .before .before .before .before .before .before in
+    BatchOver current (start .args .image .now) (wordsOf (Allocate 4096 12)) (pos 0 ∷ []) (toZ w64 (ofZ w64 (c .list-over .result))) (c .list-over .last .0) (c .list-over .last .1 .1 .0)
+listed c =
+    let made = c .before .before .before .before in
+    same-list current _ _ _ _ _ _ _ _ (made .words-of .ensures) (toZ-ofZ {w = w64} (record { sfits = c .list-over .ok })) (c .list-over .ensures)
+
+same-length : tie.Need-same-length
+same-length c = search needs
+
+returns : tie.Need-returns
+returns c =
+    let called = c .before .before .before .before in
+    let known = called .before .before .before .before .before in
+    list-refused current lawful-current _ (λ i b. known .slice-known .given i .fits) (Allocate 4096 12) _ _ _ (listed called) (c .if1 .taken) ∙ page-call (known .before .args .image .now)
+
+array-copy-out-result : tie.Need-array-copy-out-result
+array-copy-out-result c = search needs
+
+same-length-2 : tie.Need-same-length-2
+same-length-2 c = search needs
+
+returns-2 : tie.Need-returns-2
+returns-2 c =
+    let tested = c .before in
+    let called = tested .before .before .before .before in
+    let known = called .before .before .before .before .before in
+    ap (λ (i : ℤ). returned i (called .list-over .last .0)) (toZ-ofZ {w = w64} (record { sfits = c .result .given }))
+    ∙ list-served current lawful-current _ (λ i b. known .slice-known .given i .fits) (Allocate 4096 12) _ _ _ (listed called) (tested .if1 .left)
+    ∙ page-call (known .before .args .image .now)
+
+pub take-page-spec : {M : Type 1} → statement M
+take-page-spec =
+    tie.close
+    (tie.spec
+    words-of-requires
+    slice-aggregate-list-over
+    slice-aggregate-list-over-2
+    list-over-requires
+    same-length
+    returns
+    array-copy-out-result
+    same-length-2
+    returns-2)

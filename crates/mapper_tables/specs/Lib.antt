@@ -1,0 +1,3 @@
+-- What the contracts cite of tables that lie apart.
+pub mod Apart
+pub mod Reached
