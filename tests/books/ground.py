@@ -33,7 +33,7 @@ def program():
 
 
 def bounded(words, files, few, is_few):
-    """How many random files are tried: few, where each run of the program goes through a shell and an emulator."""
+    """How many random files are tried: few, where each run of the program goes through a shell."""
     return few if is_few or len(words) > 1 else files
 
 

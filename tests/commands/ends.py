@@ -4,7 +4,7 @@ import signal
 import subprocess
 import time
 
-from scratch import OBEY, PROJECT, Scratch, like
+from scratch import MACHINE, OBEY, PROJECT, Scratch, like, write
 
 FAILS = "echo yes; echo 'failed: the answers cannot be written: No space left on device' >&2"
 FAILED = "run: the answers cannot be written: No space left on device\n"
@@ -72,6 +72,18 @@ def ended_with_its_command():
     return "a command that is ended ends its program", "the program was still there five seconds later" if survived else None
 
 
+def made_for_the_machine():
+    """On Arm gcc links a program; where it cannot, the emulator runs the kit's, and where it fails, that is said."""
+    with Scratch() as scratch:
+        gcc, run = scratch.kit / "bin" / "gcc", ["./run", "crates.txt"]
+        yield "a program that is emulated", scratch.shell("tools/program --emulated script <crates.txt").problem(0, "ok\nok\n", None)
+        write(gcc, "#!/bin/sh\necho crt1.o\n", 0o755)
+        yield "a gcc without a C library", scratch.run(run).problem(0, "ok\nok\n", "")
+        write(gcc, '#!/bin/sh\n[ "$1" != -print-file-name=crt1.o ] || exec echo /crt1.o\nexit 1\n', 0o755)
+        if MACHINE == "aarch64":
+            yield "a gcc that fails", scratch.run(run).problem(1, "", like(r".*run: script could not be made for Arm; the compiler's words stand above\n"))
+
+
 def full_and_closed():
     with Scratch() as scratch:
         scratch.build()
@@ -95,5 +107,6 @@ def cases():
     yield from programs()
     yield closed_input()
     yield ended_with_its_command()
+    yield from made_for_the_machine()
     yield from full_and_closed()
     yield from begun()

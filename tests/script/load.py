@@ -9,7 +9,7 @@ ROUND = ["a 4096 0", "f 65536 4096", "a 65537 0", "r 70000 100 16", "f 65536 655
 ROUND_ANSWERS = ["ok 65536", "ok", "no 3", "ok", "ok", "no 4", "bad", "list 1 65536", "65536 131071"]
 
 ROUNDS = 125000
-MOST_SECONDS = 5
+MOST_SECONDS = 2
 MOST_SECONDS_EMULATED = 60
 
 

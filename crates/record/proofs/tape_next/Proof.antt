@@ -1,7 +1,6 @@
 use mathlib.Core.Path.{sym, _∙_}
 use native.Mathlib.Omega.{arith}
 use Rattle.pool_state.specs.Shown.{pool}
-use Rattle.script_chunks.specs.Input.{silent}
 use Rattle.script_chunks.proofs.Hearing.{end-within}
 use borrow.Author.Needs.{needs}
 use Rattle.record.proofs.tape_next.Statement.{statement}
@@ -18,7 +17,7 @@ tape-ended-requires c κs =
     let k = c .before .before .before in
     let s = k .before .before .before .before .before .before in
     let h = s .pre .1 in
-    let w = end-within pool (s .args .chunk .now) _ _ (omega arith) (sym (k .end .given .1) ∙ k .before .before .find-newline .ensures) (silent (s .args .t .state)) in
+    let w = end-within pool (s .args .chunk .now) _ _ (omega arith) (sym (k .end .given .1) ∙ k .before .before .find-newline .ensures) in
     (s .pre .0, w .0, w .1)
 
 enum-told : tie.Need-enum-told
