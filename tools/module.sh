@@ -97,13 +97,16 @@ keep_of() {
     -o "$kept/x86_64.ll"
 }
 
+declare -A own_lines=() # of each kind, the lines of a module that name its target
+
 # Triple and data layout replaced, the x86-64 attributes dropped. For UEFI no call that probes the stack is put in, since nobody
 # there has it.
 retarget() {
-  local kind=${2:-aarch64} own layout target probe='' kept=target/module/$1
-  own=$("$clang" --target="$(target_of "$kind")" -S -emit-llvm -x c /dev/null -o - | grep '^target ')
-  layout=$(grep '^target datalayout' <<<"$own")
-  target=$(grep '^target triple' <<<"$own")
+  local kind=${2:-aarch64} layout target probe='' kept=target/module/$1
+  [ -n "${own_lines[$kind]-}" ] ||
+    own_lines[$kind]=$("$clang" --target="$(target_of "$kind")" -S -emit-llvm -x c /dev/null -o - | grep '^target ')
+  layout=$(grep '^target datalayout' <<<"${own_lines[$kind]}")
+  target=$(grep '^target triple' <<<"${own_lines[$kind]}")
   [ "$kind" != aarch64-uefi ] || probe='s/^(attributes #[0-9]+ = \{)/\1 "no-stack-arg-probe"/'
   sed -E -e "s|^target datalayout = .*|$layout|" -e "s|^target triple = .*|$target|" \
     -e 's/ "(target-cpu|target-features|tune-cpu)"="[^"]*"//g' -e "$probe" "$kept/x86_64.ll" >"$kept/$kind.ll"

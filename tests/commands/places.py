@@ -13,11 +13,12 @@ TESTED = "3 passed, 0 failed\n"
 COMMANDS = [
     ("run", ["{root}/crates.txt"], 0, "ok\nok\n", ""),
     ("tools/archives", [], 0, MADE, ""),
-    ("tools/archives", ["--where", "x86_64"], 0, "libcinghjalofa.a\n", ""),
     ("tools/bench", ["--unknown"], 2, "", like(r".*usage: tools/bench.*")),
+    ("tools/install", ["--unknown"], 2, "", like(r".*usage: tools/install.*")),
     ("tools/kit-folder", [], 0, "{kit}\n", ""),
     ("tools/locked", ["cat", "crates.txt"], 0, "script:\nc_calls:\n", ""),
     ("tools/program", ["script"], 0, "", ""),
+    ("tools/release", ["--unknown"], 2, "", like(r".*usage: tools/release.*")),
     ("tools/setup", [], 0, "", None),
     ("test", [], 0, TESTED, None),
     (".ci/run", [], 0, TESTED, None),

@@ -13,7 +13,7 @@ HERE = Path(__file__).resolve().parent
 PROJECT = HERE.parents[1]
 COMMANDS = ("run", "test", ".ci", "tools", "bench", "VERSION", "kit-id")
 MACHINE = platform.machine()
-LONGEST_SECONDS = 30
+LONGEST_SECONDS = 60
 BUILDING_SECONDS = 1200  # where a build is due, or another command builds
 MOST_BYTES = 1 << 24
 
