@@ -1,7 +1,7 @@
 """The sentence of each refusal and of each bad line, and the line that explains it: by hand, from the rules and the calls before."""
 from ground import Folder, books, held_to, run
 
-APART = "|".join(f"f {8192 * k} 4096" for k in range(1, 65))
+APART = "|".join(f"f {8192 * k} 4096" for k in range(1, 257))
 
 # calls, the line that is refused, its answer, and the sentence
 SENTENCES = [
@@ -24,8 +24,8 @@ SENTENCES = [
     ("f 0 4|f 8 6|a 7 0", 3, "no 3", "no free range has 7 bytes in one piece; the longest, in 8 to 13, has 6"),
     ("f 1 6|f 9 7|a 8 2", 3, "no 3", "no free range has 8 bytes from a multiple of 4 on; the longest, in 9 to 15, has 4"),
     ("f 1 2|a 2 2", 2, "no 3", "no free range has a byte from a multiple of 4 on"),
-    (APART + "|f 532480 4096", 65, "no 1", "the book has 64 free ranges, since line 64, and no room for one more"),
-    (APART + "|r 8192 1 0|r 9216 1024 0", 66, "no 1", "the book has 64 free ranges, since line 64, and no room for one more"),
+    (APART + "|f 2105344 4096", 257, "no 1", "the book has 256 free ranges, since line 256, and no room for one more"),
+    (APART + "|r 8192 1 0|r 9216 1024 0", 258, "no 1", "the book has 256 free ranges, since line 256, and no room for one more"),
     ("f 4096, 4096", 1, "bad", "a comma; numbers are parted by a space and have no points or commas in them"),
     ("g 1 2", 1, "bad", "a call begins with f, a, r or l"),
     ("f 1", 1, "bad", "f takes 2 numbers, and here is 1"),

@@ -9,12 +9,14 @@ const LISTS: usize = 12;
 
 const TOTAL_AT: usize = 5;
 const FIRST_AT: usize = 13;
-const HEADS_AT: usize = 14;
-const RECORDS_AT: usize = HEADS_AT + LISTS;
+const LINK_BYTES: usize = 2;
+const HEADS_AT: usize = FIRST_AT + LINK_BYTES;
+const RECORDS_AT: usize = HEADS_AT + LINK_BYTES * LISTS;
 
-const RECORD_BYTES: usize = 21;
 const LAST_IN_RECORD: usize = 8;
-const NEXT_IN_RECORD: usize = 18;
+const LINKS_IN_RECORD: usize = 17;
+const NEXT_IN_RECORD: usize = LINKS_IN_RECORD + LINK_BYTES;
+const RECORD_BYTES: usize = LINKS_IN_RECORD + 4 * LINK_BYTES;
 
 pub(crate) type Image = [u8; IMAGE_BYTES];
 
@@ -59,7 +61,7 @@ enum Kept<'a> {
 
 impl<'a> FreeRanges<'a> {
     pub(crate) fn of(image: &'a Image) -> Self {
-        Self { kept: Kept::InImage(image), record: u16::from(image[FIRST_AT]), left: POOL }
+        Self { kept: Kept::InImage(image), record: link_at(image, FIRST_AT), left: POOL }
     }
 
     pub(crate) fn of_own(own: &'a Own) -> Self {
@@ -84,7 +86,7 @@ impl Iterator for FreeRanges<'_> {
 /// First and last byte of a record, and the next one.
 fn record(image: &Image, number: u16) -> Option<(u64, u64, u16)> {
     let bytes = image.get(RECORDS_AT..)?.chunks_exact(RECORD_BYTES).nth(usize::from(number))?;
-    Some((number_at(bytes, 0), number_at(bytes, LAST_IN_RECORD), u16::from(*bytes.get(NEXT_IN_RECORD)?)))
+    Some((number_at(bytes, 0), number_at(bytes, LAST_IN_RECORD), link_at(bytes, NEXT_IN_RECORD)))
 }
 
 pub(crate) fn total(image: &Image) -> usize {
@@ -107,4 +109,9 @@ pub(crate) fn listing(ranges: FreeRanges<'_>, starts: &mut [usize], lasts: &mut 
 /// The eight bytes from `at`; a place outside the bytes counts as 0.
 fn number_at(bytes: &[u8], at: usize) -> u64 {
     bytes.iter().skip(at).take(8).fold(0, |high, &byte| high << 8 | u64::from(byte))
+}
+
+/// The link in the two bytes from `at`.
+fn link_at(bytes: &[u8], at: usize) -> u16 {
+    bytes.iter().skip(at).take(LINK_BYTES).fold(0, |high, &byte| high << 8 | u16::from(byte))
 }

@@ -18,7 +18,7 @@ pub use owned::{MemoryAllocator, UncheckedAllocator};
 
 use image::Image;
 
-/// The length of an image.
+/// The length of an image, version 2 of its layout.
 pub const IMAGE_BYTES: usize = calls::IMAGE_BYTES;
 
 /// The bytes of a page.
@@ -27,7 +27,7 @@ pub const PAGE_BYTES: usize = calls::PAGE_BYTES as usize;
 /// Why a call was refused. A refused call has changed nothing.
 #[derive(Clone, Copy, PartialEq, Eq, Debug)]
 pub enum MemoryError {
-    /// A record is needed and all 64 are in use.
+    /// A record is needed and all 256 are in use.
     NoEntry,
     /// The bytes are no image of a sound allocator.
     InvalidEntry,
@@ -64,8 +64,8 @@ impl MemoryError {
 /// ```
 /// use cinghjalofa::{LentAllocator, MemoryError, IMAGE_BYTES};
 ///
-/// let mut page = [0xaa; 4096];
-/// let image = &mut page[..IMAGE_BYTES];
+/// let mut pages = [0xaa; 8192];
+/// let image = &mut pages[..IMAGE_BYTES];
 /// assert_eq!(LentAllocator::from_image(image).err(), Some(MemoryError::InvalidEntry));
 ///
 /// LentAllocator::new(image)?.free(0x10000, 0x10000)?;
@@ -92,6 +92,20 @@ pub fn is_sound(image: &[u8]) -> bool {
         Ok(mut copy) => calls::allocate(&mut copy, 0, 0) == Err(MemoryError::InvalidRequest),
         Err(_) => false,
     }
+}
+
+/// The current image of the state whose image `old` is, of any version: version 1, of 64 records in 1370 bytes, or the current one, which
+/// comes out as it went in. The free ranges keep their records and their orders. `InvalidEntry` where `old` is none of a sound allocator.
+///
+/// ```
+/// let image = cinghjalofa::MemoryAllocator::new().image();
+/// assert_eq!(cinghjalofa::upgrade(&image), Ok(image));
+/// assert_eq!(cinghjalofa::upgrade(&image[1..]), Err(cinghjalofa::MemoryError::InvalidEntry));
+/// ```
+pub fn upgrade(old: &[u8]) -> Result<[u8; IMAGE_BYTES], MemoryError> {
+    let mut image = [0; IMAGE_BYTES];
+    calls::upgrade(old, &mut image)?;
+    Ok(image)
 }
 
 impl<'a> LentAllocator<'a> {

@@ -147,12 +147,12 @@ impl MemoryAllocator {
     }
 
     /// Writes first and last bytes of the free ranges, by address, to two slices and returns their number.
-    /// `InvalidRequest`, and nothing written, where a slice is too short; 64 places are always enough.
+    /// `InvalidRequest`, and nothing written, where a slice is too short; 256 places are always enough.
     ///
     /// ```
     /// let mut memory = cinghjalofa::MemoryAllocator::new();
     /// memory.free(0x8000, 0x1000).unwrap();
-    /// let (mut starts, mut lasts) = ([0; 64], [0; 64]);
+    /// let (mut starts, mut lasts) = ([0; 256], [0; 256]);
     /// assert_eq!(memory.listing(&mut starts, &mut lasts), Ok(1));
     /// assert_eq!((starts[0], lasts[0]), (0x8000, 0x8fff));
     /// ```
