@@ -23,10 +23,10 @@
  *   changes no byte of the image. No call writes outside the image and, of a list, the
  *   places of its calls.
  *   A slice of another length is refused with -2 before anything else, and before a byte of it is read. An image that
- *   no sound allocator writes (damaged, or of another version) is refused with -2 before a bad request is with -4.
+ *   no sound allocator writes (damaged, or of another version, an older one too) is refused with -2 before a bad request is with -4.
  *
  * Addresses run from 0 to 2^63-1 and sizes count bytes. An alignment order n, 0 to 63, means a multiple of 2^n. There
- * are 64 records, one for each free range. The total is the number of free bytes. Sums are mathematical, never wrapped.
+ * are 256 records, one for each free range. The total is the number of free bytes. Sums are mathematical, never wrapped.
  */
 #ifndef CINGHJALOFA_H
 #define CINGHJALOFA_H
@@ -50,8 +50,8 @@ __extension__ typedef _Bool cinghjalofa_bool;
 typedef unsigned char cinghjalofa_bool;
 #endif
 
-/* The length of an image; any other `len` is refused. */
-#define CINGHJALOFA_IMAGE_BYTES 1370
+/* The length of an image, version 2 of its layout; any other `len` is refused. Version 1 had 1370 bytes: cinghjalofa_upgrade reads it. */
+#define CINGHJALOFA_IMAGE_BYTES 6439
 
 /* The bytes of a page, and how many pages the addresses have. */
 #define CINGHJALOFA_PAGE_BYTES 4096
@@ -95,6 +95,14 @@ extern "C" {
  *   -2  len is not CINGHJALOFA_IMAGE_BYTES
  */
 int64_t cinghjalofa_new(uint8_t *image, size_t len);
+
+/*
+ * Writes the current image of the state whose image `old` is, of any version: the same free ranges in the same records and the
+ * same orders, the other records unused. An image of the current version comes out as it went in. Answers 0. `old` points to
+ * `old_len` bytes that may be read, and the two slices do not overlap.
+ *   -2  len is not CINGHJALOFA_IMAGE_BYTES, or old is no image of a sound allocator, of 64 records in 1370 bytes (version 1) or of now
+ */
+int64_t cinghjalofa_upgrade(const uint8_t *old, size_t old_len, uint8_t *image, size_t len);
 
 /*
  * Takes `size` free bytes and answers the address of the first, a multiple of 2^order. They come from the first free
@@ -246,7 +254,7 @@ int64_t cinghjalofa_audit(const uint8_t *journal, size_t len, uint64_t *figure);
 
 /* ---- A state of one's own */
 
-#define CINGHJALOFA_RECORDS 64
+#define CINGHJALOFA_RECORDS 256
 #define CINGHJALOFA_LISTS 12
 
 /* Two kinds more, of single calls on a state of one's own. */

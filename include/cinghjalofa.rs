@@ -14,16 +14,17 @@
 //   Below 0: refused, for the first reason that applies in the order in which each function lists them. A refusal changes
 //   no byte of the image. No call writes outside the image and, of a list, the places of its calls.
 //   A slice of another length is refused with -2 before anything else, and before a byte of it is read. An image that no
-//   sound allocator writes (damaged, or of another version) is refused with -2 before a bad request is with -4.
+//   sound allocator writes (damaged, or of another version, an older one too) is refused with -2 before a bad request is with -4.
 //
 // The functions over slices are safe: they ask nothing about contents or numbers and never panic. `&mut` keeps two calls
 // over one image apart; the library itself takes no lock.
 //
 // Addresses run from 0 to 2^63-1 and sizes count bytes. An alignment order n, 0 to 63, means a multiple of 2^n. There are
-// 64 records, one for each free range. The total is the number of free bytes. Sums are mathematical, never wrapped.
+// 256 records, one for each free range. The total is the number of free bytes. Sums are mathematical, never wrapped.
 
-/// The length of an image; a slice of any other length is refused.
-pub const IMAGE_BYTES: usize = 1370;
+/// The length of an image, version 2 of its layout; a slice of any other length is refused. Version 1 had 1370 bytes: `upgrade`
+/// reads it.
+pub const IMAGE_BYTES: usize = 6439;
 
 /// The bytes of a page.
 pub const PAGE_BYTES: u64 = 4096;
@@ -52,7 +53,7 @@ pub const ALLOCATE_PAGES: u64 = 4;
 pub const FREE_PAGES: u64 = 5;
 
 /// The records, and the size lists.
-pub const RECORDS: usize = 64;
+pub const RECORDS: usize = 256;
 pub const LISTS: usize = 12;
 /// What a link is where there is none.
 pub const NO_RECORD: u16 = u16::MAX;
@@ -94,6 +95,7 @@ macro_rules! foreign {
 // `answers`; each is aligned as its numbers are, and the three do not overlap.
 foreign! { _;
     pub fn cinghjalofa_new(image: *mut u8, len: usize) -> i64;
+    fn cinghjalofa_upgrade(old: *const u8, old_len: usize, image: *mut u8, len: usize) -> i64;
     pub fn cinghjalofa_allocate(image: *mut u8, len: usize, size: u64, order: u64) -> i64;
     pub fn cinghjalofa_reserve_memory(image: *mut u8, len: usize, start: u64, size: u64, order: u64) -> i64;
     pub fn cinghjalofa_free(image: *mut u8, len: usize, start: u64, size: u64) -> i64;
@@ -272,6 +274,13 @@ foreign! { _;
 pub fn new(image: &mut [u8]) -> i64 {
     // Safety: pointer and length are those of a slice that is borrowed for the whole call; so in each function below.
     unsafe { cinghjalofa_new(image.as_mut_ptr(), image.len()) }
+}
+
+/// Writes the current image of the state whose image `old` is, of any version: the same free ranges in the same records and the
+/// same orders, the other records unused. An image of the current version comes out as it went in. Answers 0.
+/// - -2: `image` is not `IMAGE_BYTES` long, or `old` is no image of a sound allocator, of 64 records in 1370 bytes (version 1) or of now
+pub fn upgrade(old: &[u8], image: &mut [u8]) -> i64 {
+    unsafe { cinghjalofa_upgrade(old.as_ptr(), old.len(), image.as_mut_ptr(), image.len()) }
 }
 
 /// Takes `size` free bytes and answers the address of the first, a multiple of 2^order. They come from the first free

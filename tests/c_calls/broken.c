@@ -9,12 +9,16 @@
 #include <string.h>
 
 #define IMAGE_BYTES CINGHJALOFA_IMAGE_BYTES
-#define RECORDS 64
+#define RECORDS 256
 #define LISTS 12
-#define NONE 255
+#define NONE 65535
+#define HEADS_AT 15
+#define RECORDS_AT 39
+#define RECORD_BYTES 25
 #define GO_ON 1 /* no refusal */
 
 int64_t __real_cinghjalofa_new(uint8_t *image, size_t len);
+int64_t __real_cinghjalofa_upgrade(const uint8_t *old, size_t old_len, uint8_t *image, size_t len);
 int64_t __real_cinghjalofa_allocate(uint8_t *image, size_t len, uint64_t size, uint64_t order);
 int64_t __real_cinghjalofa_reserve_memory(uint8_t *image, size_t len, uint64_t start, uint64_t size, uint64_t order);
 int64_t __real_cinghjalofa_free(uint8_t *image, size_t len, uint64_t start, uint64_t size);
@@ -41,7 +45,7 @@ static int is_breakage(const char *name)
 
 static uint8_t *record_at(uint8_t *image, int number)
 {
-    return image + 26 + 21 * number;
+    return image + RECORDS_AT + RECORD_BYTES * number;
 }
 
 static uint64_t number_at(const uint8_t *bytes)
@@ -72,7 +76,7 @@ static void freshen_unused(uint8_t *image)
         uint8_t *record = record_at(image, k);
         if (record[16] == 0) {
             memset(record, 0, 17);
-            memset(record + 17, 255, 4);
+            memset(record + 17, 255, 8);
         }
     }
 }
@@ -85,25 +89,36 @@ static int reaches_top(uint8_t *image)
     return 0;
 }
 
+static unsigned link_at(const uint8_t *link)
+{
+    return (unsigned)link[0] << 8 | link[1];
+}
+
+static void put_link(uint8_t *link, unsigned number)
+{
+    link[0] = (uint8_t)(number >> 8);
+    link[1] = (uint8_t)number;
+}
+
 static void exchange_link(uint8_t *link)
 {
-    if (*link < 2)
-        *link = (uint8_t)(1 - *link);
+    if (link_at(link) < 2)
+        put_link(link, 1 - link_at(link));
 }
 
 /* The same free ranges, in the same orders: only the numbers of the first two records are the other way round. */
 static void exchange_records(uint8_t *image)
 {
-    uint8_t first[21];
+    uint8_t first[RECORD_BYTES];
 
-    for (int i = 13; i < 26; i++)
+    for (int i = 13; i < RECORDS_AT; i += 2)
         exchange_link(image + i);
     for (int k = 0; k < RECORDS; k++)
-        for (int i = 17; i < 21; i++)
+        for (int i = 17; i < RECORD_BYTES; i += 2)
             exchange_link(record_at(image, k) + i);
-    memcpy(first, record_at(image, 0), 21);
-    memcpy(record_at(image, 0), record_at(image, 1), 21);
-    memcpy(record_at(image, 1), first, 21);
+    memcpy(first, record_at(image, 0), RECORD_BYTES);
+    memcpy(record_at(image, 0), record_at(image, 1), RECORD_BYTES);
+    memcpy(record_at(image, 1), first, RECORD_BYTES);
 }
 
 static uint64_t size_of(const uint8_t *record)
@@ -114,18 +129,22 @@ static uint64_t size_of(const uint8_t *record)
 /* Where the first two of a size list are equal, the second comes first. */
 static void exchange_equals(uint8_t *image, uint8_t *head)
 {
-    uint8_t *one = *head == NONE ? NULL : record_at(image, *head);
-    uint8_t *other = !one || one[20] == NONE ? NULL : record_at(image, one[20]);
+    const unsigned at = link_at(head);
+    uint8_t *one = at == NONE ? NULL : record_at(image, (int)at);
+    const unsigned next = one ? link_at(one + 23) : NONE;
+    uint8_t *other = next == NONE ? NULL : record_at(image, (int)next);
+    unsigned after;
 
     if (!other || size_of(one) != size_of(other))
         return;
-    other[19] = NONE;
-    one[19] = one[20];
-    one[20] = other[20];
-    other[20] = *head;
-    *head = one[19];
-    if (one[20] != NONE)
-        record_at(image, one[20])[19] = other[20];
+    after = link_at(other + 23);
+    put_link(other + 21, NONE);
+    put_link(other + 23, at);
+    put_link(one + 21, next);
+    put_link(one + 23, after);
+    put_link(head, next);
+    if (after != NONE)
+        put_link(record_at(image, (int)after) + 21, at);
 }
 
 /* Before any real call: a refusal of the broken port's own, or GO_ON. */
@@ -178,7 +197,7 @@ static int64_t end(uint8_t *image, size_t len, int64_t answer)
     if (is_breakage("other-records") && answer >= 0)
         exchange_records(image);
     for (int list = 0; is_breakage("older-first") && answer >= 0 && list < LISTS; list++)
-        exchange_equals(image, image + 14 + list);
+        exchange_equals(image, image + HEADS_AT + 2 * list);
     return answer;
 }
 
@@ -190,8 +209,31 @@ int64_t __wrap_cinghjalofa_new(uint8_t *image, size_t len)
         return answer;
     answer = __real_cinghjalofa_new(image, len);
     if (is_breakage("new-keeps-records") && answer == 0)
-        memcpy(record_at(image, 0), record_at(old_image, 0), 21 * RECORDS);
+        memcpy(record_at(image, 0), record_at(old_image, 0), RECORD_BYTES * RECORDS);
     return end(image, len, answer);
+}
+
+int64_t __wrap_cinghjalofa_upgrade(const uint8_t *old, size_t old_len, uint8_t *image, size_t len)
+{
+    static uint8_t righted[1370];
+    uint64_t total = 0;
+    int64_t answer;
+
+    if (is_breakage("older-unchecked") && old_len == sizeof righted) {
+        memcpy(righted, old, sizeof righted);
+        for (int k = 0; k < 64; k++)
+            if (old[26 + 21 * k + 16] == 1)
+                total += number_at(old + 26 + 21 * k + 8) - number_at(old + 26 + 21 * k) + 1;
+        for (int i = 0; i < 8; i++)
+            righted[5 + i] = (uint8_t)(total >> (56 - 8 * i));
+        old = righted;
+    }
+    answer = __real_cinghjalofa_upgrade(old, old_len, image, len);
+    if (is_breakage("older-none-kept") && answer == 0)
+        for (int k = 0; k < RECORDS; k++)
+            if (record_at(image, k)[16] == 1 && link_at(record_at(image, k) + 19) == NONE)
+                put_link(record_at(image, k) + 19, 255);
+    return answer;
 }
 
 int64_t __wrap_cinghjalofa_allocate(uint8_t *image, size_t len, uint64_t size, uint64_t order)

@@ -2,11 +2,12 @@
 #include <stdio.h>
 #include "cinghjalofa.h"
 
-#define STRETCH 65536
+#define STRETCH 262144
 #define PAINT 0xa5
 
 static uint8_t image[CINGHJALOFA_IMAGE_BYTES];
 static const uint64_t CALLS[] = {1, 98304, 32768, 0, 2, 4096, 13, 0, 3, 75000, 100, 12, 9, 0, 0, 0};
+static uint8_t upgraded[CINGHJALOFA_IMAGE_BYTES];
 static int64_t answers[4];
 static long deepest;
 
@@ -30,7 +31,7 @@ static __attribute__((noinline)) void measure(void) {
 int main(void) {
     size_t len = sizeof image;
     TRY(cinghjalofa_new(image, len));
-    for (uint64_t k = 1; k < 64; k++) /* one record is left */
+    for (uint64_t k = 1; k < 256; k++) /* one record is left */
         TRY(cinghjalofa_free(image, len, 65536 * k, 32768));
     TRY(cinghjalofa_allocate(image, len, 4096, 13));
     TRY(cinghjalofa_reserve_memory(image, len, 70000, 100, 12)); /* a split: the last record */
@@ -39,6 +40,7 @@ int main(void) {
     TRY(cinghjalofa_free(image, len, 98304, 32768)); /* refused */
     TRY(cinghjalofa_allocate(image, len, (uint64_t)1 << 40, 0));
     TRY(cinghjalofa_batch(image, len, CALLS, sizeof CALLS / sizeof CALLS[0], answers, sizeof answers / sizeof answers[0]));
+    TRY(cinghjalofa_upgrade(image, len, upgraded, sizeof upgraded));
     printf("%ld\n", deepest);
     return 0;
 }

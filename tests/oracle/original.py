@@ -10,6 +10,8 @@ USUAL_FOLDER = PROJECT / ".." / "shared" / "docs" / "src"
 ACCESSOR = Path(__file__).with_name("accessor.rs")
 SECOND_ADDITION = "self.free_size += size;"
 PAGE_SHIFT = "pub const PAGE_SHIFT: usize = 12;"
+FEWER_RECORDS = "const POOL_SIZE: usize = 64;"
+RECORDS = "const POOL_SIZE: usize = 256;"
 
 
 class Unusable(Exception):
@@ -26,6 +28,16 @@ def find():
     """The module's file, or None."""
     module = folder() / "src" / "memory_allocator.rs"
     return module if module.is_file() else None
+
+
+def with_more_records(text):
+    """The original with 256 records, as request T-05 asks: one figure of one line is another."""
+    lines = text.splitlines(keepends=True)
+    found = [at for at, line in enumerate(lines) if "POOL_SIZE" in line and line.strip() == FEWER_RECORDS]
+    if len(found) != 1:
+        raise Unusable(f"the original has {len(found)} lines `{FEWER_RECORDS}`, not 1")
+    lines[found[0]] = lines[found[0]].replace(FEWER_RECORDS, RECORDS)
+    return "".join(lines)
 
 
 def without_second_addition(text):
@@ -50,31 +62,36 @@ def with_accessor(text):
 
 
 def write_crate(module, out):
-    """Writes the crate `original` to `out`: the module in place, and the copies beside. Returns root and sources."""
+    """Writes the crate `original` to `out`: the copies of the module. Returns root and sources."""
     if PAGE_SHIFT not in (module.parent / "paging.rs").read_text():
         raise Unusable(f"paging.rs of the original does not say `{PAGE_SHIFT}`")
-    text = module.read_text()
+    text = with_more_records(module.read_text())
     counting = without_second_addition(text)
     copies = {
+        "untouched": text,
         "counting": counting,
         "untouched_watched": with_accessor(text),
         "counting_watched": with_accessor(counting),
     }
-    places = {"untouched": module}
+    places = {}
     for name, content in copies.items():
         places[name] = out / f"{name}.rs"
         places[name].write_text(content)
-    check_copies(places)
+    check_copies(module, places)
     modules = [f"#[path = {json.dumps(str(place))}]\npub mod {name};\n" for name, place in places.items()]
     root = out / "original.rs"
     root.write_text(f"mod paging {{\n    {PAGE_SHIFT}\n}}\n" + "".join(modules))
     return root, list(places.values())
 
 
-def check_copies(places):
-    """Reads the written files again: one line dropped, and lines appended, are all that sets the copies apart."""
+def check_copies(module, places):
+    """Reads the written files again: the figure of one line, one line dropped, and lines appended, are all that sets them apart."""
     lines = {name: place.read_text().splitlines() for name, place in places.items()}
     untouched, counting = lines["untouched"], lines["counting"]
+    whole = module.read_text().splitlines()
+    changed = [(one.strip(), other.strip()) for one, other in zip(whole, untouched) if one != other]
+    if len(whole) != len(untouched) or changed != [(FEWER_RECORDS, RECORDS)]:
+        raise Unusable("the copy with more records is not the original with one other figure")
     at = next(at for at, (one, other) in enumerate(zip(untouched, counting)) if one != other)
     if untouched[at].strip() != SECOND_ADDITION or untouched[:at] + untouched[at + 1 :] != counting:
         raise Unusable("the counting copy is not the original without the one line")

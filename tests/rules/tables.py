@@ -18,7 +18,7 @@ OLD = [
     ("another answer in the ledger", LEDGER, "at 81920 ∷", "at 81921 ∷", f"{LEDGER} is old"),
     ("a case less in the trials", TRIALS, "    ∷ trial 1 (f 8192 8192 ∷ f 65536 1 ∷ [])", "    -- ∷ trial 1 (f 8192 8192 ∷ f 65536 1 ∷ [])", f"{TRIALS} is old"),
     ("another answer in the example", EXAMPLE, "ok 81920\n", "ok 81921\n", f"{EXAMPLE} is old"),
-    ("a number that is none", TABLE, "\npool 64\n", "\npool 6x\n", "is no number"),
+    ("a number that is none", TABLE, "\npool 256\n", "\npool 25x\n", "is no number"),
     ("a call without its answer", TABLE, "\nr 65536 65536 0 = -3\n", "\nr 65536 65536 0\n", "no call and its answer"),
     ("two cases of one name", TABLE, "\ncase one byte past the top\n", "\ncase the script\n", "two cases have this name"),
     ("an address that no call answers", TABLE, "\nr 65536 65536 0 = -3\n", "\nr 65536 65536 0 = 65536\n", "no call answers so"),

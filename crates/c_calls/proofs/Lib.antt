@@ -5,3 +5,4 @@ pub mod Refusals
 pub mod Demand
 pub mod Pages
 pub mod Batches
+pub mod Upgrade

@@ -1,16 +1,21 @@
 -- What each C call returns, and every byte of the image that it leaves, for every image and all numbers. Assumes nothing.
 use Prim.Native.Nat.{ℕ}
+use mathlib.Core.Bool.{cond}
 use mathlib.Core.List.{List}
 use lib.Dec.{eqb}
+use lib.IntN.{pos}
 use lib.ListN.{length}
 use Rattle.rules.specs.Rules.{empty, Call, Free, Allocate, Reserve}
 use Rattle.pool_state.specs.State.{stateOf}
-use Rattle.calls.specs.declared.Answer.the-variants.{Accepted}
+use Rattle.calls.specs.Calls.{signedOf}
+use Rattle.calls.specs.declared.Answer.the-variants.{Accepted, InvalidEntry}
 use Rattle.core_serve.specs.Made.{made}
 use Rattle.calls.specs.declared.Outcome.{Outcome}
 use Rattle.pages.specs.Calls.{PageCall, AllocatePages, FreePages, byteCall}
-use Rattle.image_parts.specs.Layout.{Layout, imageSize}
-use Rattle.image.specs.Reading.{readingOf}
+use Rattle.image_parts.specs.Layout.{Layout, current, imageSize}
+use Rattle.image_writing.specs.Writing.{imageOf}
+use Rattle.image.specs.Reading.{readingOf, readingAny}
+use Rattle.image_upgrade.specs.Upgrades.{upgrades}
 pub use Rattle.image_calls.specs.Lists.{Returned, returned}
 unfoldable pub use Rattle.image_calls.specs.Lists.{finished, over}
 
@@ -44,3 +49,7 @@ begun f = record { answer = Accepted (record { 0 = 0 }); state = stateOf (f .rec
 -- whatever is there serves, if it has the length
 unfoldable pub newOver : Layout → List ℕ → Returned
 newOver f l = over f (eqb (length l) (imageSize f)) (begun f) l
+
+-- the old bytes, of any version, as the current image; else the slice is as it was
+unfoldable pub upgradeOver : List ℕ → List ℕ → Returned
+upgradeOver old l = cond (upgrades old l) (returned (pos 0) (imageOf current (readingAny old .state))) (returned (signedOf InvalidEntry) l)

@@ -81,7 +81,7 @@ pub record Links (n : ℕ) (s : MemoryAllocator) (i : ℕ) : Type 0 where
 
 pub record Paragraph (n : ℕ) (s : MemoryAllocator) : Type 0 where
   pub sized : Sized n s
-  -- "First, heads and links are none or 0 to 63."
+  -- "First, heads and links are none or 0 to 63." (of 64 records; here none or below n)
   pub first : Link n (s .«first_entry» .0)
   pub heads : (k : ℕ) → k < sizeLists → Link n (getD (s .«free_list») k 0)
   pub links : (i : ℕ) → i < n → Links n s i

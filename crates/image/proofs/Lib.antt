@@ -6,3 +6,4 @@ pub mod ReadBack
 pub mod WriteBack
 pub mod Rounds
 pub mod Standing
+pub mod Versions

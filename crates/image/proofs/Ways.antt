@@ -1,20 +1,27 @@
 -- What the definitions give on each way through the code, over any layout. Assumes nothing.
-use mathlib.Core.Path.{_≡_, refl, sym}
+use mathlib.Core.Path.{_≡_, refl, sym, ap, subst}
 use mathlib.Core.Bool.{Bool, true, false}
 use mathlib.Core.List.{List}
-use Prim.Native.Nat.{ℕ, _+_}
+use Prim.Native.Nat.{ℕ, _+_, _≤_}
 use lib.Dec.{eqb}
 use lib.ListN.{length}
 use borrow.Author.Tests.{eq-eqb, ne-eqb, eqb-true}
+use Rattle.linked_lists.specs.Links.{none}
+use Rattle.rules.specs.Rules.{empty}
+use Rattle.rules_laws.proofs.Kept.{empty-sound}
+use Rattle.pool_state.specs.Shown.{pool}
+use Rattle.pool_state.specs.State.{stateOf}
+use Rattle.pool_state.proofs.Book.{book-back}
 use Rattle.pool_state.specs.declared.MemoryAllocator.{MemoryAllocator}
 use Rattle.check_state.specs.IsSound.{isSound}
-use Rattle.image_parts.specs.Layout.{Layout, lengthAt, lengthSize, recordsAt, enabledAt, recordSize, imageSize, restSize}
+use Rattle.image_parts.specs.Layout.{Layout, Housed, current, lengthAt, lengthSize, recordsAt, enabledAt, recordSize, imageSize, restSize}
 use Rattle.image_writing.specs.Writing.{imageOf}
 use Rattle.image.specs.Writing.{written, writingOf}
 use Rattle.image_parts.specs.Read.{numberIn, bits}
 use Rattle.image_parts.proofs.Loops.{both}
-use Rattle.image_reading.specs.Reading.{framed, stateIn, readable}
-use Rattle.image.specs.Reading.{accepted, refused, readingOf}
+use Rattle.image_reading.specs.Reading.{framed, stateIn, readable, grown, ReadsState}
+use Rattle.image_parts.proofs.Lawful.{small-pool, housed-of}
+use Rattle.image.specs.Reading.{handed, accepted, refused, readingOf, layoutIn, readingAny}
 use Rattle.image.specs.declared.ImageAnswer.the-variants.{Done, InvalidEntry}
 
 -- ---- writing
@@ -83,3 +90,32 @@ module _ (f : Layout) (l : List ℕ) where
     pub read-whole : r ≡ true → (s : MemoryAllocator) → s ≡ stateIn f l → accepted s ≡ readingOf f l
     unfolding readingOf
     read-whole on s es = rw (← told, on, ← es)
+
+-- ---- of any version
+
+-- the empty state grows to the empty state
+empty-grows : (n m : ℕ) → n ≤ none → grown n m (stateOf n empty) ≡ stateOf m empty
+empty-grows n m small = ap (stateOf m) (book-back n small empty (empty-sound n))
+
+pub housed-told : (f : Layout) (l : List ℕ) → f ≡ layoutIn l → Housed f
+housed-told f l e = subst Housed (sym e) (housed-of (numberIn l 0 lengthAt))
+
+-- what was read by the layout of the bytes
+pub by-told : (f : Layout) (l : List ℕ) (r : Bool) (s : MemoryAllocator) → f ≡ layoutIn l → ReadsState pool f l r s → ReadsState pool (layoutIn l) l r s
+by-told f l r s e h = subst (λ (x : Layout). ReadsState pool x l r s) e h
+
+module _ (l : List ℕ) (r : Bool) (told : r ≡ readable (layoutIn l) l) where
+  abbrev f : Layout
+  f = layoutIn l
+
+  pub any-unread : r ≡ false → refused current ≡ readingAny l
+  unfolding readingAny
+  any-unread off =
+      let e = unread f l r told off in
+      rw (← e) (ap (handed InvalidEntry) (sym (empty-grows (f .records) pool (small-pool f (housed-of (numberIn l 0 lengthAt) .lawful)))))
+
+  pub any-read : r ≡ true → (s : MemoryAllocator) → s ≡ grown (f .records) pool (stateIn f l) → accepted s ≡ readingAny l
+  unfolding readingAny
+  any-read on s es =
+      let e = read-whole f l r told on (stateIn f l) refl in
+      rw (← e) (ap (handed Done) es)

@@ -5,8 +5,10 @@ use mathlib.Core.List.{List}
 use Rattle.rules.specs.Rules.{empty}
 use Rattle.pool_state.specs.State.{stateOf}
 use Rattle.pool_state.specs.declared.MemoryAllocator.{MemoryAllocator}
-use Rattle.image_parts.specs.Layout.{Layout}
-use Rattle.image_reading.specs.Reading.{stateIn, readable}
+use Rattle.image_parts.specs.Layout.{Layout, lengthAt, layoutOf}
+use Rattle.image_parts.specs.Read.{numberIn}
+use Rattle.pool_state.specs.Shown.{pool}
+use Rattle.image_reading.specs.Reading.{stateIn, readable, grown}
 use Rattle.image.specs.Writing.{numberOf}
 use Rattle.image.specs.declared.ImageAnswer.{ImageAnswer}
 use Rattle.image.specs.declared.ImageAnswer.the-variants.{Done, InvalidEntry}
@@ -27,3 +29,16 @@ refused f = handed InvalidEntry (stateOf (f .records) empty)
 
 unfoldable pub readingOf : Layout → List ℕ → Handed
 readingOf f l = cond (readable f l) (accepted (stateIn f l)) (refused f)
+
+-- ---- of any version
+
+-- the layout of these bytes
+abbrev pub layoutIn : List ℕ → Layout
+layoutIn l = layoutOf (numberIn l 0 lengthAt)
+
+-- what was read with the records of a layout, with those of now: the same chain and shelf, the other records fresh
+abbrev pub updated : Layout → Handed → Handed
+updated f h = record { number = h .number; state = grown (f .records) pool (h .state) }
+
+unfoldable pub readingAny : List ℕ → Handed
+readingAny l = updated (layoutIn l) (readingOf (layoutIn l) l)

@@ -1,7 +1,8 @@
 // Reading an image.
 use crate::ImageAnswer;
 use crate::Reading;
-use image_reading::read_current;
+use image_parts::layout::layout_of;
+use image_reading::read_fields;
 use pool_state::LISTS;
 use pool_state::MemoryAllocator;
 use pool_state::NONE;
@@ -10,7 +11,7 @@ use pool_state::RecordIndex;
 use pool_state::new;
 ghost use mathlib.Core.Path.{_≡_};
 ghost use Rattle.image_parts.specs.Layout.{current};
-ghost use Rattle.image.specs.Reading.{handed, refused, readingOf};
+ghost use Rattle.image.specs.Reading.{handed, refused, readingAny};
 
 fn refusal() -> Reading
     ensures { λ r. ⌜ handed (r .answer) (r .state) ≡ refused current ⌝ }
@@ -23,10 +24,11 @@ fn refusal() -> Reading
     }
 }
 
-// The sound state whose image this is, if there is one.
+// The sound state whose image this is, if there is one, whatever its version.
 pub fn read_image(image: &[u8]) -> Reading
-    ensures { λ r. ⌜ handed (r .answer) (r .state) ≡ readingOf current (now (image .entry)) ⌝ }
+    ensures { λ r. ⌜ handed (r .answer) (r .state) ≡ readingAny (now (image .entry)) ⌝ }
 {
+    let form = layout_of(image);
     let mut total: u64 = 0;
     let mut first: u16 = NONE;
     let mut heads = [NONE; LISTS];
@@ -37,8 +39,9 @@ pub fn read_image(image: &[u8]) -> Reading
     let mut next = [NONE; POOL];
     let mut lprev = [NONE; POOL];
     let mut lnext = [NONE; POOL];
-    if read_current(
+    if read_fields(
         image,
+        form,
         &mut total,
         &mut first,
         &mut heads,

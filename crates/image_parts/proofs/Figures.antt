@@ -1,7 +1,27 @@
--- The figures of document 01's "Byte image" are those of the layout. Assumes nothing.
+-- The figures of document 01's "Byte image", and those of 256 records, are those of the layouts. Assumes nothing.
 use mathlib.Core.Path.{_≡_, refl}
-use Prim.Native.Nat.{_+_, _*_}
-use Rattle.image_parts.specs.Layout.{version1, noLink, recordsAt, recordSize, imageSize, restSize}
+use Prim.Native.Nat.{ℕ, _+_, _*_}
+use Rattle.image_parts.specs.Layout.{Layout, version1, version2, current, noLink, recordsAt, recordSize, recordAt, imageSize, restSize}
 
-pub figures : (version1 .version ≡ 1) × (restSize version1 ≡ 1365) × (imageSize version1 ≡ 1370) × (recordSize version1 ≡ 21) × (noLink version1 ≡ 255) × (recordsAt version1 + recordSize version1 * version1 .records ≡ 26 + 21 * 64)
-figures = (refl, refl, refl, refl, refl, refl)
+-- version, records, the number of none, the length field, the bytes of all; and where record i stands
+pub record Figures (f : Layout) (v n none rest all first apart : ℕ) : Type 0 where
+  pub versions : f .version ≡ v
+  pub counts : f .records ≡ n
+  pub nones : noLink f ≡ none
+  pub rests : restSize f ≡ rest
+  pub sizes : imageSize f ≡ all
+  pub firsts : recordsAt f ≡ first
+  pub aparts : recordSize f ≡ apart
+
+pub figures1 : Figures version1 1 64 255 1365 1370 26 21
+figures1 = record { versions = refl; counts = refl; nones = refl; rests = refl; sizes = refl; firsts = refl; aparts = refl }
+
+pub figures2 : Figures version2 2 256 65535 6434 6439 39 25
+figures2 = record { versions = refl; counts = refl; nones = refl; rests = refl; sizes = refl; firsts = refl; aparts = refl }
+
+-- the enabled byte of record i, and its four links
+pub places2 : (i : ℕ) → recordAt version2 i ≡ 39 + 25 * i
+places2 i = refl
+
+pub current-is-2 : current ≡ version2
+current-is-2 = refl

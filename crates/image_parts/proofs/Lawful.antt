@@ -1,16 +1,32 @@
 -- What follows for a layout whose fields can hold its own numbers, and which are such. Assumes nothing.
+use mathlib.Core.Bool.{Bool, true, false, cond}
 use mathlib.Core.Path.{_≡_, refl}
+use lib.Dec.{eqb}
 use Prim.Native.Nat.{ℕ, zero, suc, _+_, _-_, _*_, _^_, _<_, _≤_}
-use native.Mathlib.Nat.{one-le-pow, mul-le-mul-left}
+use native.Mathlib.Nat.{one-le-pow}
 use native.Mathlib.Omega.{arith}
 use Rattle.linked_lists.specs.Links.{none}
-use Rattle.image_parts.specs.Layout.{Layout, current, noLink, Lawful, Housed}
+use Rattle.image_parts.specs.Layout.{Layout, version1, current, layoutOf, noLink, Lawful, Housed}
+
+pub lawful-version1 : Lawful version1
+lawful-version1 = record { versions = omega arith; rests = omega arith; records = omega arith; links = omega arith; lows = refl }
+
+pub housed-version1 : Housed version1
+housed-version1 = record { lawful = lawful-version1; room = omega arith }
 
 pub lawful-current : Lawful current
 lawful-current = record { versions = omega arith; rests = omega arith; records = omega arith; links = omega arith; lows = refl }
 
 pub housed-current : Housed current
 housed-current = record { lawful = lawful-current; room = omega arith }
+
+-- whatever the first byte is
+pub housed-of : (v : ℕ) → Housed (layoutOf v)
+housed-of v = go (eqb v (version1 .version))
+  where
+    go : (t : Bool) → Housed (cond t version1 current)
+    go true = housed-version1
+    go false = housed-current
 
 -- so no record has the number that stands for none
 pub small-pool : (f : Layout) → Lawful f → f .records ≤ none

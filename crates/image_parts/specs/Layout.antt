@@ -1,6 +1,8 @@
 -- Where each field stands in an image. A layout is a value: the version, the number of records, the bytes of a link, and those of a low figure after the heads. Assumes nothing.
 use Prim.Native.Nat.{ℕ, _+_, _-_, _*_, _^_, _<_, _≤_}
+use mathlib.Core.Bool.{cond}
 use mathlib.Core.Path.{_≡_}
+use lib.Dec.{eqb}
 use Rattle.linked_lists.specs.Links.{none}
 use Rattle.rules.specs.Rules.{sizeLists}
 use Rattle.pool_state.specs.Shown.{pool}
@@ -10,12 +12,20 @@ use Rattle.image_parts.specs.declared.layout.Layout as code
 abbrev pub Layout : Type 0
 Layout = code.Layout
 
+-- of before: still read
 abbrev pub version1 : Layout
-version1 = record { version = 1; records = pool; link = 1; low = 0 }
+version1 = record { version = 1; records = 64; link = 1; low = 0 }
 
--- what the code writes and reads
+abbrev pub version2 : Layout
+version2 = record { version = 2; records = pool; link = 2; low = 0 }
+
+-- what is written, and what the C calls take
 abbrev pub current : Layout
-current = version1
+current = version2
+
+-- the layout that the first byte tells
+abbrev pub layoutOf : ℕ → Layout
+layoutOf v = cond (eqb v (version1 .version)) version1 current
 
 -- the bytes of an address and of the total
 abbrev pub word : ℕ

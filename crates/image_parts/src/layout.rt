@@ -2,7 +2,8 @@
 use pool_state::LISTS;
 use pool_state::POOL;
 ghost use mathlib.Core.Path.{_≡_};
-ghost use Rattle.image_parts.specs.Layout.{Lawful, current, noLink, lowAt, recordsAt, recordSize, imageSize};
+ghost use Rattle.image_parts.specs.Layout.{Lawful, version1, current, layoutOf, lengthAt, noLink, recordsAt, recordSize, imageSize};
+ghost use Rattle.image_parts.specs.Read.{numberIn};
 
 // A version of the image is a value: its number, its number of records, the bytes of a link, and those of a low figure after the heads.
 pub struct Layout {
@@ -29,12 +30,12 @@ pub const LINKS: usize = ENABLED + 1;
 
 // ---- what is written
 
-pub const VERSION: u64 = 1;
+pub const VERSION: u64 = 2;
 
 // The bytes of a link, and the number that stands for no record.
-pub const LINK: usize = 1;
+pub const LINK: usize = 2;
 
-pub const NO_LINK: u16 = 255;
+pub const NO_LINK: u16 = 65535;
 
 pub const LOW: usize = 0;
 
@@ -51,6 +52,20 @@ pub const IMAGE: usize = RECORDS + RECORD * POOL;
 // The length field: the bytes after it.
 pub const REST: u64 = (IMAGE - TOTAL) as u64;
 
+// ---- the versions
+
+// Of before: 64 records, and a byte for a link.
+pub fn version_1() -> Layout
+    ensures { λ r. ⌜ r ≡ version1 ⌝ }
+{
+    Layout {
+        version: 1,
+        records: 64,
+        link: 1,
+        low: 0,
+    }
+}
+
 pub fn current_layout() -> Layout
     ensures { λ r. ⌜ r ≡ current ⌝ }
 {
@@ -60,6 +75,19 @@ pub fn current_layout() -> Layout
         link: LINK,
         low: LOW,
     }
+}
+
+// The layout that the first byte tells.
+pub fn layout_of(image: &[u8]) -> Layout
+    ensures { λ r. ⌜ r ≡ layoutOf (numberIn (now (image .entry)) 0 lengthAt) ⌝ }
+{
+    if image.len() == 0 {
+        return current_layout();
+    }
+    if image[0] == 1 {
+        return version_1();
+    }
+    current_layout()
 }
 
 // ---- the figures of any layout

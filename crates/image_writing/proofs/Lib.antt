@@ -1,2 +1,3 @@
 -- Laws of writing an image.
 pub mod Renewing
+pub mod Pinned

@@ -5,7 +5,7 @@ ghost use Rattle.pool_state.specs.Shown.{pool};
 ghost use Rattle.pool_state.specs.State.{stateOf};
 
 // The number of records, and of size lists.
-pub const POOL: usize = 64;
+pub const POOL: usize = 256;
 
 pub const LISTS: usize = 12;
 

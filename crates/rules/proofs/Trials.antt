@@ -56,5 +56,5 @@ unfolding sizes listNumbers several shown left least listNumber lists ofList tal
 listed = (refl, refl, refl, refl)
 
 -- the numbers that the document names
-pub numbers : (top ≡ 9223372036854775808) × (records ≡ 64) × (sizeLists ≡ 12)
+pub numbers : (top ≡ 9223372036854775808) × (records ≡ 256) × (sizeLists ≡ 12)
 numbers = (refl, refl, refl)

@@ -15,7 +15,7 @@ top = 2 ^ 63
 
 -- the number of records, and of size lists
 abbrev pub records : ℕ
-records = 64
+records = 256
 
 abbrev pub sizeLists : ℕ
 sizeLists = 12

@@ -16,6 +16,10 @@ pub(crate) fn new(image: &mut [u8]) -> Result<(), MemoryError> {
     result_of(library::new(image)).map(|_| ())
 }
 
+pub(crate) fn upgrade(old: &[u8], image: &mut [u8]) -> Result<(), MemoryError> {
+    result_of(library::upgrade(old, image)).map(|_| ())
+}
+
 pub(crate) fn allocate(image: &mut [u8], size: usize, order: usize) -> Result<usize, MemoryError> {
     result_of(library::allocate(image, size as u64, order as u64))
 }

@@ -20,7 +20,7 @@ pub use ranges::{FreeRange, FreeRanges};
 
 use core::alloc::Layout;
 
-/// The length of an image.
+/// The length of an image, version 2 of its layout.
 pub const IMAGE_BYTES: usize = calls::IMAGE_BYTES;
 
 /// The free ranges that there can be: each has a record.
@@ -38,8 +38,8 @@ pub(crate) type Image = [u8; IMAGE_BYTES];
 /// ```
 /// use cinghjalofa::{LentAllocator, MemoryError, IMAGE_BYTES};
 ///
-/// let mut page = [0xaa; 4096];
-/// let image = &mut page[..IMAGE_BYTES];
+/// let mut pages = [0xaa; 8192];
+/// let image = &mut pages[..IMAGE_BYTES];
 /// assert_eq!(LentAllocator::from_image(image).err(), Some(MemoryError::InvalidEntry));
 ///
 /// LentAllocator::new(image)?.free(0x10000, 0x10000)?;
@@ -61,6 +61,20 @@ pub struct LentAllocator<'a> {
 /// ```
 pub fn is_sound(image: &[u8]) -> bool {
     calls::is_image(image)
+}
+
+/// The current image of the state whose image `old` is, of any version: version 1, of 64 records in 1370 bytes, or the current one, which
+/// comes out as it went in. The free ranges keep their records and their orders. `InvalidEntry` where `old` is none of a sound allocator.
+///
+/// ```
+/// let image = cinghjalofa::MemoryAllocator::new().image();
+/// assert_eq!(cinghjalofa::upgrade(&image), Ok(image));
+/// assert_eq!(cinghjalofa::upgrade(&image[1..]), Err(cinghjalofa::MemoryError::InvalidEntry));
+/// ```
+pub fn upgrade(old: &[u8]) -> Result<[u8; IMAGE_BYTES], MemoryError> {
+    let mut image = [0; IMAGE_BYTES];
+    calls::upgrade(old, &mut image)?;
+    Ok(image)
 }
 
 impl<'a> LentAllocator<'a> {

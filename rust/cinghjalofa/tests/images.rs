@@ -57,7 +57,7 @@ fn owned_and_lent_go_on_with_one_another() {
     assert!(lent.is_sound() && owned.is_sound());
     assert_eq!(lent.total(), owned.total());
     assert!(lent.ranges().eq(owned.ranges()));
-    let (mut starts, mut lasts) = ([0; 64], [0; 64]);
+    let (mut starts, mut lasts) = ([0; 256], [0; 256]);
     assert_eq!(lent.listing(&mut starts, &mut lasts), Ok(lent.ranges().count()));
     assert_eq!(image, owned.image());
     assert_eq!(MemoryAllocator::from_image(&image).map(|copy| copy.total()), Ok(owned.total()));

@@ -16,7 +16,7 @@ const CALLS: [Call; 8] = [
 ];
 
 /// The bytes of its fields; behind them lies padding.
-const FIELD_BYTES: usize = 8 + 2 * 64 * 8 + 64 + 12 * 2 + 4 * 64 * 2 + 2;
+const FIELD_BYTES: usize = 8 + 2 * 256 * 8 + 256 + 12 * 2 + 4 * 256 * 2 + 2;
 
 fn served() -> MemoryAllocator {
     let mut memory = MemoryAllocator::new();

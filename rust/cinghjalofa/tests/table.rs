@@ -93,5 +93,5 @@ fn a_lent_allocator() {
 
 #[test]
 fn the_table_is_of_as_many_records_as_an_image_has() {
-    assert_eq!(table().records as usize, (IMAGE_BYTES - 26) / 21);
+    assert_eq!(table().records as usize, (IMAGE_BYTES - 39) / 25);
 }

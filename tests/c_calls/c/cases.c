@@ -7,10 +7,10 @@
 
 #define LONGEST_LINE 400
 #define MOST_NUMBERS 32
-#define NONE 255
+#define NONE 65535
 #define AT 12345
-#define RECORDS_AT 26
-#define RECORD_BYTES 21
+#define RECORDS_AT 39
+#define RECORD_BYTES 25
 
 struct line {
     char word[8];
@@ -75,6 +75,11 @@ static uint64_t number_at(const uint8_t *bytes)
     return number;
 }
 
+static uint16_t link_at(const uint8_t *bytes)
+{
+    return (uint16_t)(bytes[0] << 8 | bytes[1]);
+}
+
 /* The ranges from the image's first record along `next`, against FIRST LAST .., or RECORD FIRST LAST .. if `width` is 3. */
 static void check_ranges(const uint64_t *wanted, size_t count, size_t width, uint64_t total)
 {
@@ -83,13 +88,13 @@ static void check_ranges(const uint64_t *wanted, size_t count, size_t width, uin
 
     if (number_at(image + 5) != total)
         fail("the image after this call holds another total");
-    for (uint8_t at = image[13]; at != NONE && met <= count; met++, wanted += width) {
+    for (uint16_t at = link_at(image + 13); at != NONE && met <= count; met++, wanted += width) {
         const uint8_t *record = image + RECORDS_AT + RECORD_BYTES * at;
         if (met < count && width == 3 && wanted[0] != at)
             fail("the image after this call holds a range in another record");
         if (met < count && (number_at(record) != wanted[width - 2] || number_at(record + 8) != wanted[width - 1]))
             fail("the image after this call holds another range");
-        at = record[18];
+        at = link_at(record + 19);
     }
     if (met != count)
         fail("the image after this call holds another number of ranges");

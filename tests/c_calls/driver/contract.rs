@@ -4,8 +4,9 @@ use crate::fields::Fields;
 use crate::lent::{Call, Lent, IMAGE_BYTES, MOST_PAGES};
 use crate::report::Report;
 
-const WRONG_LENGTHS: [usize; 5] = [0, 1, IMAGE_BYTES - 1, IMAGE_BYTES + 1, 4096];
-const LONGEST: usize = 4096;
+/// Among them the length of version 1.
+const WRONG_LENGTHS: [usize; 6] = [0, 1, 1370, IMAGE_BYTES - 1, IMAGE_BYTES + 1, 8192];
+const LONGEST: usize = 8192;
 
 /// The ranges of the sample image.
 const SAMPLE: [(u64, u64); 2] = [(65536, 81919), (131072, 196607)];
@@ -80,7 +81,7 @@ fn answer_requests(lent: &mut Lent, sample: &[u8; IMAGE_BYTES], report: &mut Rep
 }
 
 fn refuse_damaged(lent: &mut Lent, sample: &[u8; IMAGE_BYTES], report: &mut Report) {
-    for field in [0, 1, 4, 5, 12, 13, 14, 25, 26, 41, 42, 43, 44, 45, 46, 68, 84, 1349, 1365, 1369] {
+    for field in [0, 1, 4, 5, 12, 13, 14, 15, 38, 39, 54, 55, 56, 57, 58, 60, 62, 63, 89, 105, 106, 6414, 6430, 6438] {
         let mut damaged = *sample;
         damaged[field] ^= 2;
         for (call, _) in &GOOD[1..] {

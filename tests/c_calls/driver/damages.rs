@@ -13,60 +13,61 @@ type Range = (u64, u64);
 const CYCLES: [(&str, Clause, Change); 4] = [
     ("the last range leads back to the first", Clause::Chain, |f| link_next(f, last(&f.chain()), f.first)),
     ("the chain is a ring in both directions", Clause::Chain, close_ring),
-    ("a range leads to itself", Clause::Chain, |f| link_next(f, f.chain()[4], f.chain()[4] as u8)),
-    ("a range leads back to the one before", Clause::Chain, |f| link_next(f, f.chain()[4], f.chain()[3] as u8)),
+    ("a range leads to itself", Clause::Chain, |f| link_next(f, f.chain()[4], f.chain()[4] as u16)),
+    ("a range leads back to the one before", Clause::Chain, |f| link_next(f, f.chain()[4], f.chain()[3] as u16)),
 ];
 
 /// Other changes of the rich image's chain.
 const CHAIN: [(&str, Clause, Change); 9] = [
     ("the chain leaves a range out", Clause::Chain, |f| leave_out_of_chain(f, &[4])),
     ("two ranges lead to each other beside the chain", Clause::Chain, pair_beside_chain),
-    ("the chain begins at its second range", Clause::Chain, |f| f.first = f.chain()[1] as u8),
+    ("the chain begins at its second range", Clause::Chain, |f| f.first = f.chain()[1] as u16),
     ("the chain is lost", Clause::Chain, |f| f.first = NONE),
-    ("the chain goes on into an unused record", Clause::Chain, |f| link_next(f, last(&f.chain()), f.unused()[0] as u8)),
+    ("the chain goes on into an unused record", Clause::Chain, |f| link_next(f, last(&f.chain()), f.unused()[0] as u16)),
     ("two neighbours are exchanged on the chain", Clause::Address, |f| {
         let mut chain = f.chain();
         chain.swap(4, 5);
         f.link_chain(&chain);
     }),
-    ("the way back leaves a range out", Clause::Previous, |f| f.records[f.chain()[5]].previous = f.chain()[3] as u8),
+    ("the way back leaves a range out", Clause::Previous, |f| f.records[f.chain()[5]].previous = f.chain()[3] as u16),
     ("the way back ends early", Clause::Previous, |f| f.records[f.chain()[5]].previous = NONE),
     ("the way back goes on to the last range", Clause::Previous, |f| {
-        f.records[f.first as usize].previous = last(&f.chain()) as u8;
+        f.records[f.first as usize].previous = last(&f.chain()) as u16;
     }),
 ];
 
 /// Changes of the rich image's lists.
 const LIST: [(&str, Clause, Change); 12] = [
     ("a list leads back to its head", Clause::List, |f| link_list_next(f, last(&f.list(3)), f.heads[3])),
-    ("a range leads to itself on its list", Clause::List, |f| link_list_next(f, f.list(3)[1], f.list(3)[1] as u8)),
+    ("a range leads to itself on its list", Clause::List, |f| link_list_next(f, f.list(3)[1], f.list(3)[1] as u16)),
     ("a list goes on into the next one", Clause::List, |f| link_list_next(f, last(&f.list(3)), f.heads[4])),
-    ("two lists share their ends", Clause::List, |f| link_list_next(f, f.list(3)[0], f.list(4)[1] as u8)),
+    ("two lists share their ends", Clause::List, |f| link_list_next(f, f.list(3)[0], f.list(4)[1] as u16)),
     ("two heads are exchanged", Clause::List, |f| f.heads.swap(3, 4)),
     ("two lists have one head", Clause::List, |f| f.heads[3] = f.heads[4]),
     ("a list is lost", Clause::List, |f| f.heads[3] = NONE),
     ("a range stands on no list", Clause::List, |f| f.link_list(3, &f.list(3)[1..])),
-    ("a head leads to an unused record", Clause::List, |f| f.heads[3] = f.unused()[0] as u8),
+    ("a head leads to an unused record", Clause::List, |f| f.heads[3] = f.unused()[0] as u16),
     ("sizes fall on a list", Clause::Sizes, |f| exchange_on_lists(f, |left, right| left < right)),
     ("the way back on a list ends early", Clause::ListPrev, |f| f.records[f.list(3)[1]].list_prev = NONE),
-    ("the way back on a list goes on", Clause::ListPrev, |f| f.records[f.list(3)[0]].list_prev = f.list(2)[0] as u8),
+    ("the way back on a list goes on", Clause::ListPrev, |f| f.records[f.list(3)[0]].list_prev = f.list(2)[0] as u16),
 ];
 
 /// Changes of the rich image's other fields.
-const OTHER: [(&str, Clause, Change); 16] = [
+const OTHER: [(&str, Clause, Change); 17] = [
     ("the total is one too many", Clause::Total, |f| f.total += 1),
     ("the total is one too few", Clause::Total, |f| f.total -= 1),
     ("the total is 2^63 too many", Clause::Total, |f| f.total ^= TOP),
     ("one range grew and the total did not", Clause::Total, |f| f.records[last(&f.list(LISTS - 1))].end += 1),
     ("version 0", Clause::Layout, |f| f.version = 0),
-    ("version 2, with its length", Clause::Layout, |f| (f.version, f.rest) = (2, 6434)),
+    ("version 1, with its length", Clause::Layout, |f| (f.version, f.rest) = (1, 1365)),
     ("the length counts the whole image", Clause::Layout, |f| f.rest = IMAGE_BYTES as u32),
     ("the length is one too few", Clause::Layout, |f| f.rest -= 1),
     ("the length is little-endian", Clause::Layout, |f| f.rest = f.rest.swap_bytes()),
+    ("the end of a list is written as version 1's none", Clause::LinkNumber, |f| link_list_next(f, last(&f.list(3)), 65280)),
     ("a used record says 255 for enabled", Clause::Layout, |f| f.records[f.chain()[4]].enabled = 255),
-    ("the first record is number 64", Clause::LinkNumber, |f| f.first = RECORDS as u8),
-    ("the end of a list is written as 254", Clause::LinkNumber, |f| link_list_next(f, last(&f.list(3)), NONE - 1)),
-    ("an unused record leads to number 64", Clause::LinkNumber, |f| link_next(f, f.unused()[0], RECORDS as u8)),
+    ("the first record is number 256", Clause::LinkNumber, |f| f.first = RECORDS as u16),
+    ("the end of a list is written as 65534", Clause::LinkNumber, |f| link_list_next(f, last(&f.list(3)), NONE - 1)),
+    ("an unused record leads to number 256", Clause::LinkNumber, |f| link_next(f, f.unused()[0], RECORDS as u16)),
     ("an unused record kept its range and its links", Clause::Unused, |f| {
         f.records[f.unused()[0]] = Record { enabled: 0, ..f.records[f.chain()[4]] };
     }),
@@ -219,18 +220,18 @@ fn last(records: &[usize]) -> usize {
     *records.last().expect("the rich image has ranges on every list")
 }
 
-fn link_next(fields: &mut Fields, record: usize, next: u8) {
+fn link_next(fields: &mut Fields, record: usize, next: u16) {
     fields.records[record].next = next;
 }
 
-fn link_list_next(fields: &mut Fields, record: usize, next: u8) {
+fn link_list_next(fields: &mut Fields, record: usize, next: u16) {
     fields.records[record].list_next = next;
 }
 
 fn close_ring(fields: &mut Fields) {
     let (first, last) = (fields.first, last(&fields.chain()));
     fields.records[last].next = first;
-    fields.records[first as usize].previous = last as u8;
+    fields.records[first as usize].previous = last as u16;
 }
 
 /// The chain, properly linked, without those at the given places of it.
@@ -244,8 +245,8 @@ fn pair_beside_chain(fields: &mut Fields) {
     let (one, other) = (fields.chain()[4], fields.chain()[5]);
     leave_out_of_chain(fields, &[4, 5]);
     for (record, partner) in [(one, other), (other, one)] {
-        fields.records[record].next = partner as u8;
-        fields.records[record].previous = partner as u8;
+        fields.records[record].next = partner as u16;
+        fields.records[record].previous = partner as u16;
     }
 }
 
@@ -264,9 +265,9 @@ fn exchange_on_lists(fields: &mut Fields, wanted: fn(u64, u64) -> bool) {
 /// The two records change places, with all that leads to them; one may be unused.
 fn exchange_records(fields: &mut Fields, one: usize, other: usize) {
     fields.records.swap(one, other);
-    let follow = |link: &mut u8| match *link as usize {
-        at if at == one => *link = other as u8,
-        at if at == other => *link = one as u8,
+    let follow = |link: &mut u16| match *link as usize {
+        at if at == one => *link = other as u16,
+        at if at == other => *link = one as u16,
         _ => (),
     };
     follow(&mut fields.first);

@@ -2,26 +2,30 @@
 
 use crate::lent::IMAGE_BYTES;
 
-pub const RECORDS: usize = 64;
+pub const RECORDS: usize = 256;
 pub const LISTS: usize = 12;
-pub const NONE: u8 = 255;
+pub const NONE: u16 = 65535;
+
+pub const VERSION: u8 = 2;
+pub const REST: u32 = 6434;
 
 pub const TOTAL_AT: usize = 5;
 pub const FIRST_AT: usize = 13;
-pub const HEADS_AT: usize = 14;
-pub const RECORDS_AT: usize = 26;
-pub const RECORD_BYTES: usize = 21;
+pub const HEADS_AT: usize = 15;
+pub const RECORDS_AT: usize = 39;
+pub const RECORD_BYTES: usize = 25;
 pub const LINKS_AT: usize = 17;
+pub const LINK_BYTES: usize = 2;
 
 #[derive(Clone, Copy, PartialEq)]
 pub struct Record {
     pub start: u64,
     pub end: u64,
     pub enabled: u8,
-    pub previous: u8,
-    pub next: u8,
-    pub list_prev: u8,
-    pub list_next: u8,
+    pub previous: u16,
+    pub next: u16,
+    pub list_prev: u16,
+    pub list_next: u16,
 }
 
 pub const FRESH: Record =
@@ -39,8 +43,8 @@ pub struct Fields {
     pub version: u8,
     pub rest: u32,
     pub total: u64,
-    pub first: u8,
-    pub heads: [u8; LISTS],
+    pub first: u16,
+    pub heads: [u16; LISTS],
     pub records: [Record; RECORDS],
 }
 
@@ -55,19 +59,22 @@ impl Fields {
             version: image[0],
             rest: u32::from_be_bytes(image[1..TOTAL_AT].try_into().unwrap()),
             total: number(&image[TOTAL_AT..]),
-            first: image[FIRST_AT],
-            heads: image[HEADS_AT..RECORDS_AT].try_into().unwrap(),
+            first: link_at(image, FIRST_AT),
+            heads: [NONE; LISTS],
             records: [FRESH; RECORDS],
         };
+        for (list, head) in fields.heads.iter_mut().enumerate() {
+            *head = link_at(image, HEADS_AT + LINK_BYTES * list);
+        }
         for (record, bytes) in fields.records.iter_mut().zip(image[RECORDS_AT..].chunks(RECORD_BYTES)) {
             *record = Record {
                 start: number(bytes),
                 end: number(&bytes[8..]),
                 enabled: bytes[16],
-                previous: bytes[LINKS_AT],
-                next: bytes[18],
-                list_prev: bytes[19],
-                list_next: bytes[20],
+                previous: link_at(bytes, LINKS_AT),
+                next: link_at(bytes, LINKS_AT + LINK_BYTES),
+                list_prev: link_at(bytes, LINKS_AT + 2 * LINK_BYTES),
+                list_next: link_at(bytes, LINKS_AT + 3 * LINK_BYTES),
             };
         }
         fields
@@ -78,13 +85,13 @@ impl Fields {
         image[0] = self.version;
         image[1..TOTAL_AT].copy_from_slice(&self.rest.to_be_bytes());
         image[TOTAL_AT..FIRST_AT].copy_from_slice(&self.total.to_be_bytes());
-        image[FIRST_AT] = self.first;
-        image[HEADS_AT..RECORDS_AT].copy_from_slice(&self.heads);
+        put_links(&mut image[FIRST_AT..HEADS_AT], &[self.first]);
+        put_links(&mut image[HEADS_AT..RECORDS_AT], &self.heads);
         for (record, bytes) in self.records.iter().zip(image[RECORDS_AT..].chunks_mut(RECORD_BYTES)) {
             bytes[..8].copy_from_slice(&record.start.to_be_bytes());
             bytes[8..16].copy_from_slice(&record.end.to_be_bytes());
             bytes[16] = record.enabled;
-            bytes[LINKS_AT..].copy_from_slice(&[record.previous, record.next, record.list_prev, record.list_next]);
+            put_links(&mut bytes[LINKS_AT..], &[record.previous, record.next, record.list_prev, record.list_next]);
         }
         image
     }
@@ -93,7 +100,7 @@ impl Fields {
     pub fn of_ranges(ranges: &[(u64, u64)]) -> Fields {
         let no_links = [NONE; LISTS];
         let mut fields =
-            Fields { version: 1, rest: 1365, total: 0, first: NONE, heads: no_links, records: [FRESH; RECORDS] };
+            Fields { version: VERSION, rest: REST, total: 0, first: NONE, heads: no_links, records: [FRESH; RECORDS] };
         for (record, &(start, end)) in fields.records.iter_mut().zip(ranges) {
             *record = Record { start, end, enabled: 1, ..FRESH };
         }
@@ -145,7 +152,7 @@ impl Fields {
     }
 }
 
-fn follow(first: u8, next: impl Fn(usize) -> u8) -> Vec<usize> {
+fn follow(first: u16, next: impl Fn(usize) -> u16) -> Vec<usize> {
     let mut met = Vec::new();
     let mut at = first as usize;
     while at < RECORDS && met.len() < RECORDS {
@@ -155,8 +162,18 @@ fn follow(first: u8, next: impl Fn(usize) -> u8) -> Vec<usize> {
     met
 }
 
-fn link(record: Option<&usize>) -> u8 {
-    record.map_or(NONE, |&at| at as u8)
+fn link(record: Option<&usize>) -> u16 {
+    record.map_or(NONE, |&at| at as u16)
+}
+
+fn link_at(bytes: &[u8], at: usize) -> u16 {
+    u16::from_be_bytes([bytes[at], bytes[at + 1]])
+}
+
+fn put_links(bytes: &mut [u8], links: &[u16]) {
+    for (place, link) in bytes.chunks_mut(LINK_BYTES).zip(links) {
+        place.copy_from_slice(&link.to_be_bytes());
+    }
 }
 
 fn number(bytes: &[u8]) -> u64 {

@@ -1,14 +1,14 @@
 //! A judge of soundness that knows nothing of the library: document 01's "A sound state", clause by clause.
 
-use crate::fields::{list_number, Fields, Record, FRESH, LISTS, NONE, RECORDS};
+use crate::fields::{list_number, Fields, Record, FRESH, LISTS, NONE, RECORDS, REST, VERSION};
 use crate::lent::IMAGE_BYTES;
 
 /// The clauses, in the order in which the judge looks at them.
 #[derive(Clone, Copy, PartialEq, Eq, Debug)]
 pub enum Clause {
-    /// version 1, length of the rest 1365, enabled bytes 0 or 1
+    /// version 2, length of the rest 6434, enabled bytes 0 or 1
     Layout,
-    /// first, heads and links are none or 0 to 63
+    /// first, heads and links are none or 0 to 255
     LinkNumber,
     /// start <= end < 2^63
     Range,
@@ -49,9 +49,9 @@ fn judge(fields: &Fields) -> Result<(), Clause> {
 }
 
 fn judge_records(fields: &Fields) -> Result<(), Clause> {
-    let is_link = |link: u8| link == NONE || (link as usize) < RECORDS;
+    let is_link = |link: u16| link == NONE || (link as usize) < RECORDS;
     let links_of = |record: &Record| [record.previous, record.next, record.list_prev, record.list_next];
-    let laid_out = fields.version == 1 && fields.rest == 1365;
+    let laid_out = fields.version == VERSION && fields.rest == REST;
     require(laid_out && fields.records.iter().all(|record| record.enabled <= 1), Clause::Layout)?;
     require(is_link(fields.first) && fields.heads.into_iter().all(is_link), Clause::LinkNumber)?;
     require(fields.records.iter().flat_map(links_of).all(is_link), Clause::LinkNumber)?;
@@ -88,7 +88,7 @@ fn judge_lists(fields: &Fields) -> Result<(), Clause> {
 }
 
 /// The records met from `first` to the end, in order; none if there is no end.
-fn walk(first: u8, next: impl Fn(usize) -> u8) -> Option<Vec<usize>> {
+fn walk(first: u16, next: impl Fn(usize) -> u16) -> Option<Vec<usize>> {
     let mut met = Vec::with_capacity(RECORDS);
     let mut at = first;
     while at != NONE {
@@ -106,9 +106,9 @@ fn are_members(met: &[usize], is_member: impl Fn(usize) -> bool) -> bool {
     met.iter().all(|&at| is_member(at)) && met.len() == (0..RECORDS).filter(|&at| is_member(at)).count()
 }
 
-fn is_reverse(met: &[usize], back: impl Fn(usize) -> u8) -> bool {
+fn is_reverse(met: &[usize], back: impl Fn(usize) -> u16) -> bool {
     let mut before = NONE;
-    met.iter().all(|&at| back(at) == std::mem::replace(&mut before, at as u8))
+    met.iter().all(|&at| back(at) == std::mem::replace(&mut before, at as u16))
 }
 
 fn require(holds: bool, clause: Clause) -> Result<(), Clause> {

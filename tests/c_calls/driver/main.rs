@@ -1,4 +1,4 @@
-//! The C calls from Rust: `driver contract CASES`, `driver damages` or `driver sweep`.
+//! The C calls from Rust: `driver contract CASES`, `driver damages`, `driver sweep` or `driver older`.
 //! Exit status 0: all as it must be; 1: something was not; 2: it could not be tried.
 
 #[path = "../../cases.rs"]
@@ -8,6 +8,7 @@ mod damages;
 mod fields;
 mod judge;
 mod lent;
+mod older;
 mod play;
 mod report;
 mod rich;
@@ -24,7 +25,8 @@ fn main() -> ExitCode {
         ["contract", path] => contract::run(&mut report).and_then(|()| play::run(path, &mut report)),
         ["damages"] => damages::run(&mut report),
         ["sweep"] => sweep::run(&mut report),
-        _ => Err("usage: driver contract CASES | driver damages | driver sweep".to_string()),
+        ["older"] => older::run(&mut report),
+        _ => Err("usage: driver contract CASES | driver damages | driver sweep | driver older".to_string()),
     };
     report.finish(ran)
 }

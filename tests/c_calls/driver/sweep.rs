@@ -1,7 +1,8 @@
-//! Every small change of an image. The judge says whether the changed image is still sound; then no call may answer -2,
+//! Every small change of an image: every value of the head's bytes and of those of records that are used, and of every tenth unused record;
+//! of the others' each bit. The judge says whether the changed image is still sound; then no call may answer -2,
 //! and otherwise every call must, and change no byte.
 
-use crate::fields::{Fields, FIRST_AT, LINKS_AT, RECORDS, RECORDS_AT, RECORD_BYTES};
+use crate::fields::{Fields, FIRST_AT, LINKS_AT, LINK_BYTES, RECORDS_AT, RECORD_BYTES};
 use crate::judge;
 use crate::lent::{Call, Lent, IMAGE_BYTES};
 use crate::report::Report;
@@ -32,6 +33,16 @@ fn one_call_in_turn() -> Vec<Vec<Call>> {
     ACCEPTED.into_iter().chain(BAD_REQUESTS).map(|call| vec![call]).collect()
 }
 
+/// The other values that a byte is given. An unused record is compared with the fresh one, byte by byte, whatever its number is.
+fn values(image: &Image, at: usize) -> Vec<u8> {
+    let record = at.checked_sub(RECORDS_AT).map(|from| from / RECORD_BYTES);
+    let is_passed = |record: usize| Fields::read(image).records[record].enabled == 0 && record % 10 != 0;
+    match record {
+        Some(record) if is_passed(record) => (0..8).map(|bit| image[at] ^ 1 << bit).collect(),
+        _ => (0..=255).filter(|&value| value != image[at]).collect(),
+    }
+}
+
 struct Sweep<'a> {
     lent: Lent,
     report: &'a mut Report,
@@ -46,7 +57,7 @@ impl Sweep<'_> {
     fn one_byte(&mut self, name: &str, image: &Image, turns: &[Vec<Call>]) {
         let mut turn = 0;
         for at in 0..IMAGE_BYTES {
-            for value in (0..=255).filter(|&value| value != image[at]) {
+            for value in values(image, at) {
                 let mut changed = *image;
                 changed[at] = value;
                 self.try_image(&changed, &turns[turn % turns.len()], || format!("{name} with byte {at} = {value}"));
@@ -76,15 +87,21 @@ impl Sweep<'_> {
         self.count("the rich image, one byte of a range changed and the total made right");
     }
 
-    /// Every two links that differ, exchanged.
+    /// Every two links that differ, of the head, of the used records and of one that is not, exchanged.
     fn two_links(&mut self, image: &Image) {
-        let of_record = |record| (LINKS_AT..RECORD_BYTES).map(move |at| RECORDS_AT + RECORD_BYTES * record + at);
-        let links: Vec<usize> = (FIRST_AT..RECORDS_AT).chain((0..RECORDS).flat_map(of_record)).collect();
+        let used = Fields::read(image).chain();
+        let first_unused = Fields::read(image).unused()[0];
+        let of_record = |record| (LINKS_AT..RECORD_BYTES).step_by(LINK_BYTES).map(move |at| RECORDS_AT + RECORD_BYTES * record + at);
+        let records = used.into_iter().chain([first_unused]);
+        let links: Vec<usize> = (FIRST_AT..RECORDS_AT).step_by(LINK_BYTES).chain(records.flat_map(of_record)).collect();
         for (place, &one) in links.iter().enumerate() {
-            for &other in links[place + 1..].iter().filter(|&&other| image[other] != image[one]) {
+            for &other in &links[place + 1..] {
                 let mut changed = *image;
                 changed.swap(one, other);
-                self.try_image(&changed, &ACCEPTED, || format!("bytes {one} and {other} exchanged"));
+                changed.swap(one + 1, other + 1);
+                if changed != *image {
+                    self.try_image(&changed, &ACCEPTED, || format!("links at {one} and {other} exchanged"));
+                }
             }
         }
         self.count("the rich image, two links exchanged");

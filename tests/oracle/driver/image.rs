@@ -1,17 +1,19 @@
-//! The byte image of document 01, version 1, read into a shape and written from one.
+//! The byte image, version 2, read into a shape and written from one.
 
 use crate::shape::{Record, Shape, FRESH, LISTS, NONE, RECORDS};
 
 pub const IMAGE: usize = RECORDS_AT + RECORDS * RECORD;
 
-const VERSION: u8 = 1;
+const VERSION: u8 = 2;
 const REST_AT: usize = 1;
 const TOTAL_AT: usize = 5;
 const FIRST_AT: usize = 13;
-const HEADS_AT: usize = 14;
-const RECORDS_AT: usize = HEADS_AT + LISTS;
-const RECORD: usize = 21;
-const LINK_NONE: u8 = 255;
+const LINK: usize = 2;
+const HEADS_AT: usize = FIRST_AT + LINK;
+const RECORDS_AT: usize = HEADS_AT + LINK * LISTS;
+const LINKS_AT: usize = 17;
+const RECORD: usize = LINKS_AT + 4 * LINK;
+const LINK_NONE: u16 = 65535;
 
 pub type Image = [u8; IMAGE];
 
@@ -23,12 +25,12 @@ pub fn read(image: &Image) -> Result<Shape, String> {
     }
     let mut shape = Shape {
         total: number(image, TOTAL_AT),
-        first: link(image[FIRST_AT]),
+        first: link(image, FIRST_AT),
         heads: [NONE; LISTS],
         records: [FRESH; RECORDS],
     };
     for (list, head) in shape.heads.iter_mut().enumerate() {
-        *head = link(image[HEADS_AT + list]);
+        *head = link(image, HEADS_AT + LINK * list);
     }
     for (at, record) in shape.records.iter_mut().enumerate() {
         *record = read_record(&image[RECORDS_AT + at * RECORD..][..RECORD])
@@ -42,9 +44,9 @@ pub fn write(shape: &Shape) -> Image {
     image[0] = VERSION;
     image[REST_AT..TOTAL_AT].copy_from_slice(&((IMAGE - TOTAL_AT) as u32).to_be_bytes());
     image[TOTAL_AT..FIRST_AT].copy_from_slice(&shape.total.to_be_bytes());
-    image[FIRST_AT] = link_byte(shape.first);
+    put_link(&mut image, FIRST_AT, shape.first);
     for (list, &head) in shape.heads.iter().enumerate() {
-        image[HEADS_AT + list] = link_byte(head);
+        put_link(&mut image, HEADS_AT + LINK * list, head);
     }
     for (at, record) in shape.records.iter().enumerate() {
         let bytes = &mut image[RECORDS_AT + at * RECORD..][..RECORD];
@@ -52,7 +54,9 @@ pub fn write(shape: &Shape) -> Image {
         bytes[8..16].copy_from_slice(&record.end.to_be_bytes());
         bytes[16] = record.enabled as u8;
         let links = [record.previous, record.next, record.list_prev, record.list_next];
-        bytes[17..21].copy_from_slice(&links.map(link_byte));
+        for (place, link) in links.into_iter().enumerate() {
+            put_link(bytes, LINKS_AT + LINK * place, link);
+        }
     }
     image
 }
@@ -62,10 +66,10 @@ fn read_record(bytes: &[u8]) -> Result<Record, String> {
         enabled: bytes[16] == 1,
         start: number(bytes, 0),
         end: number(bytes, 8),
-        previous: link(bytes[17]),
-        next: link(bytes[18]),
-        list_prev: link(bytes[19]),
-        list_next: link(bytes[20]),
+        previous: link(bytes, LINKS_AT),
+        next: link(bytes, LINKS_AT + LINK),
+        list_prev: link(bytes, LINKS_AT + 2 * LINK),
+        list_next: link(bytes, LINKS_AT + 3 * LINK),
     };
     match bytes[16] {
         0 if record != FRESH => Err(format!("unused but not fresh, {record:?}")),
@@ -80,18 +84,14 @@ fn number(bytes: &[u8], at: usize) -> u64 {
     u64::from_be_bytes(bytes[at..at + 8].try_into().unwrap())
 }
 
-fn link(byte: u8) -> u16 {
-    if byte == LINK_NONE {
-        NONE
-    } else {
-        byte as u16
+fn link(bytes: &[u8], at: usize) -> u16 {
+    match u16::from_be_bytes([bytes[at], bytes[at + 1]]) {
+        LINK_NONE => NONE,
+        link => link,
     }
 }
 
-fn link_byte(link: u16) -> u8 {
-    if link == NONE {
-        LINK_NONE
-    } else {
-        link as u8
-    }
+fn put_link(bytes: &mut [u8], at: usize, link: u16) {
+    let number = if link == NONE { LINK_NONE } else { link };
+    bytes[at..at + LINK].copy_from_slice(&number.to_be_bytes());
 }

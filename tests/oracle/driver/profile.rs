@@ -56,7 +56,7 @@ pub const PROFILES: &[Profile] = &[
         orders: Orders::UpTo(MAX_ORDER), frees: 45, allocations: 30, hand_backs: 30,
     },
     Profile {
-        name: "crowded", unit: 1, ceiling: 1 << 16, sizes: Sizes::UpTo(60), opening: (58, 64), keep: 64,
+        name: "crowded", unit: 1, ceiling: 1 << 16, sizes: Sizes::UpTo(60), opening: (250, 256), keep: 256,
         orders: MOSTLY_UNALIGNED, frees: 50, allocations: 25, hand_backs: 20,
     },
     Profile {

@@ -1,6 +1,6 @@
 //! Everything that can be seen of an allocator's state: what an image holds, and what the accessor shows of the Rust.
 
-pub const RECORDS: usize = 64;
+pub const RECORDS: usize = 256;
 pub const LISTS: usize = 12;
 pub const NONE: u16 = u16::MAX;
 

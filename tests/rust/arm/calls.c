@@ -9,7 +9,7 @@ typedef unsigned long size_t;
 typedef unsigned long uint64_t;
 typedef long int64_t;
 
-enum { IMAGE = 1370, CALLS_IN_A_ROUND = 2000 };
+enum { IMAGE = 6439, CALLS_IN_A_ROUND = 2000 };
 
 #ifndef ROUNDS
 #define ROUNDS 16
@@ -31,9 +31,9 @@ int64_t cinghjalofa_fields_export(uint64_t total, uint16_t first, const uint16_t
                                   const uint16_t *, const uint16_t *, const uint16_t *, const uint16_t *, uint8_t *image, size_t len);
 
 struct own {
-    uint64_t total, start[64], end[64];
-    uint16_t first, heads[12], previous[64], next[64], list_prev[64], list_next[64];
-    uint8_t enabled[64];
+    uint64_t total, start[256], end[256];
+    uint16_t first, heads[12], previous[256], next[256], list_prev[256], list_next[256];
+    uint8_t enabled[256];
 };
 
 #define LENT(own) &(own)->total, &(own)->first, (own)->heads, (own)->start, (own)->end, (own)->enabled, (own)->previous, (own)->next, \

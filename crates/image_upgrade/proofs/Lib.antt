@@ -1,0 +1,3 @@
+-- Laws of an upgrade.
+pub mod Ways
+pub mod Upgrading

@@ -1,0 +1,2 @@
+-- What the contracts cite of an upgrade.
+pub mod Upgrades
