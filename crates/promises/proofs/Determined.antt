@@ -49,5 +49,15 @@ each-determined = record {
   text-put-within = λ most t l at. one _ _ (λ x h. (λ i. (h .puts .bytes i, h .puts .next i)));
   journal-left = λ w. one _ (w .number, w .numbers) (λ x h. (λ i. (h i .number, h i .numbers)));
   journal-reported = λ v old. one _ _ (λ x h. (λ i. (h .number i, h .figure i)));
-  line-answered = λ n s l out at. one _ (record { state = _; next = _ }, _) (λ x h. (λ i. (record { state = h .state i; next = h .next i }, h .bytes i)));
+  figure-shown = λ k old. one _ _ (λ x h. (λ i. (h .number i, h .figure i)));
+  own-shown = λ n s starts lasts. one _ _ (λ x h. (λ i. (h .number i, h .starts-now i, h .lasts-now i)));
+  image-shown = λ f l starts lasts. one _ _ (λ x h. (λ i. (h .number i, h .starts-now i, h .lasts-now i)));
+  part-audited = λ w.
+      one _ (record { index = w .auditing .index; used = w .used; stop = w .stop }, w .auditing .state)
+      (λ x h. (λ i. (record { index = h i .auditing .index; used = h i .used; stop = h i .stop }, h i .auditing .state)));
+  line-answered = λ n s l out at. one _ _ (λ x h. (λ i. (h .state i, h .next i, h .bytes i)));
+  mapped = λ w. one _ (w .number, w .bytes, w .words) (λ x h. (λ i. (h i .number, h i .bytes, h i .words)));
+  pages-asked = λ w. one _ (w .enough, w .bytes) (λ x h. (λ i. (h i .enough, h i .bytes)));
+  words-stored = λ w. one _ (w .arena, w .bytes) (λ x h. (λ i. (h i .arena, h i .bytes)));
+  pages-met = λ w. one _ (w .fine, w .left, w .marks) (λ x h. (λ i. (h i .fine, h i .left, h i .marks)));
 }

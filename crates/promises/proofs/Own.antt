@@ -3,6 +3,7 @@ use Prim.Native.Nat.{ℕ, _≤_}
 use mathlib.Core.Bool.{true, false}
 use mathlib.Core.List.{List, [], _∷_}
 use mathlib.Core.Path.{_≡_, refl, sym, ap, subst, _∙_}
+use lib.IntN.{ℤ}
 use lib.ListN.{length}
 use Rattle.linked_lists.specs.Links.{none}
 use Rattle.linked_lists.proofs.Laws.{true≢false}
@@ -24,13 +25,16 @@ use Rattle.core_serve.specs.Made.{judged, made}
 use Rattle.memory_allocator.specs.States.{states}
 use Rattle.memory_allocator.proofs.Steps.{sound-held, made-held, made-voucher}
 use Rattle.batch.specs.InWords.{ruleOf}
+use Rattle.batch.specs.Lists.{listServed, answered}
 use Rattle.batch.specs.Histories.{Batch, callsIn, vouchersIn}
 use Rattle.batch.specs.declared.Asked.{Asked}
 use Rattle.batch.specs.declared.Asked.the-variants.{Is, Unknown}
 use Rattle.batch.proofs.Histories.{made-sound, list-left, list-kept}
 use Rattle.door_fields.specs.Fields.{askedHere}
+use Rattle.door_fields.proofs.Sized.{sized-passes}
 use Rattle.door_own.specs.Own.{judgedHere}
 use Rattle.door_own.proofs.Own.{same-judged, unknown-here}
+use Rattle.door_lists.specs.Lists.{listedHere, answeredHere}
 use Rattle.promises.specs.Clients.{ClientDemand}
 use Rattle.promises.specs.Own.{own, OwnAct, OwnNew, OwnCall, OwnList, ownRenews, voucherIf, ownGives, ownNext, ownClient}
 use Rattle.promises.proofs.Clients.{Plays, client-demand}
@@ -76,6 +80,15 @@ module _ (n : ℕ) (small : n ≤ none) where
       let others = vouchers-are (made n s c .state) (made-sound n small s h c) cs ∙ ap (λ (t : MemoryAllocator). vouchers (own n) t cs) (sym (next-is s h c)) in
       (λ i. first i ∷ others i)
 
+  -- on a sound state a list is the list by value
+  listed-same : (s : MemoryAllocator) → SoundState n s → (l : List ℕ) (k : ℕ) → listedHere n s l k ≡ listServed n s l k
+  unfolding listedHere
+  listed-same s h l k = rw (sized-passes n s (sound-sized n small s h))
+
+  answered-same : (s : MemoryAllocator) → SoundState n s → (l : List ℕ) (old : List ℤ) → answeredHere n s l old ≡ answered n s l old
+  unfolding answeredHere
+  answered-same s h l old = rw (sized-passes n s (sound-sized n small s h))
+
   -- ---- the acts
 
   abbrev at : List Call → MemoryAllocator
@@ -110,7 +123,11 @@ module _ (n : ℕ) (small : n ≤ none) where
   onward OwnNew cs e = true≢false e
   onward (OwnCall k x y z) cs e = asked-onward (askedHere k x y z) (at cs) (sound cs)
   onward (OwnList b) cs e =
-      (list-left n small (at cs) (sound cs) b ∙ after-is (at cs) (sound cs) (callsIn b), list-kept n small (at cs) (sound cs) b ∙ vouchers-are (at cs) (sound cs) (callsIn b))
+      let state = ap (λ (r : Outcome). r .state) (listed-same (at cs) (sound cs) (b .words) (length (b .places))) in
+      let places = ap (vouchersIn b) (answered-same (at cs) (sound cs) (b .words) (b .places)) in (
+        state ∙ list-left n small (at cs) (sound cs) b ∙ after-is (at cs) (sound cs) (callsIn b),
+        places ∙ list-kept n small (at cs) (sound cs) b ∙ vouchers-are (at cs) (sound cs) (callsIn b),
+      )
 
   -- From fields that hold the empty allocator, after any list of acts.
   pub own-acts-demand : ClientDemand (own n) (ownClient n)

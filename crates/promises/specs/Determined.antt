@@ -1,6 +1,7 @@
 -- Each contract allows one result: number, address, whole next state, and each byte, word and place of what is lent. A result is all that a contract speaks
 -- of at exit; `docs/CONTRACTS.md` has, for each public call, the sentence here that its contract is an instance of. Assumes nothing.
 use Prim.Native.Nat.{ℕ}
+use mathlib.Core.Bool.{Bool}
 use mathlib.Core.List.{List}
 use mathlib.Core.Path.{_≡_}
 use lib.IntN.{ℤ}
@@ -20,14 +21,20 @@ use Rattle.image.specs.declared.Reading.{Reading}
 use Rattle.image_calls.specs.Lists.{Returned, returned, BatchOver}
 use Rattle.door_own.specs.Own.{Judged}
 use Rattle.doors.specs.Lent.{Does}
+use Rattle.door_accounts.specs.Accounts as shows
 use Rattle.door_lists.specs.Lists.{Lists, Imports, Exports}
 use Rattle.journal_calls.specs.Calls.{Left, left, Reports}
+use Rattle.journal_audit.specs.Audit.{Audited, audited}
+use Rattle.journal_audit.specs.declared.Stand.{Stand}
 use Rattle.journal_audit.specs.declared.Verdict.{Verdict}
 use Rattle.script_texts.specs.Answers.{Puts}
 use Rattle.script_lines.specs.declared.parse.Line.{Line}
 use Rattle.script_replies.specs.Replies.{PutsWithin}
 use Rattle.script_answers.specs.Script.{Answers}
-use Rattle.script_answers.specs.declared.Answered.{Answered}
+use Rattle.mapper_marks.specs.Marking as marks
+use Rattle.mapper_pages.specs.Pages.{Supply, supply}
+use Rattle.mapper_stores.specs.Stores.{Held, held}
+use Rattle.mapper.specs.Maps as maps
 
 -- any two results that a contract allows coincide
 abbrev pub Determined : {X : Type 0} → (X → Type 0) → Type 0
@@ -53,11 +60,21 @@ pub record EachDetermined : Type 1 where
   pub own-listed : (n : ℕ) (s : MemoryAllocator) (l : List ℕ) (old : List ℤ) → Determined (λ (x : ℤ × MemoryAllocator × List ℤ). Lists n s l old (x .0) (x .1) (x .2))
   pub own-imported : (f : Layout) (l : List ℕ) (s : MemoryAllocator) → Determined (λ (x : ℤ × MemoryAllocator). Imports f l (x .0) s (x .1))
   pub own-exported : (f : Layout) (s : MemoryAllocator) (l : List ℕ) → Determined (λ (x : ℤ × List ℕ). Exports f s l (x .0) (x .1))
+  -- a figure, and a listing as C has it: the number that is returned, and what the lent places hold
+  pub figure-shown : (k : Counted) (old : ℕ) → Determined (λ (x : ℤ × ℕ). shows.Figures k old (x .0) (x .1))
+  pub own-shown : (n : ℕ) (s : MemoryAllocator) (starts lasts : List ℕ) → Determined (λ (x : ℤ × List ℕ × List ℕ). shows.Lists n s starts lasts (x .0) (x .1) (x .2))
+  pub image-shown : (f : Layout) (l starts lasts : List ℕ) → Determined (λ (x : ℤ × List ℕ × List ℕ). shows.ListsBy f l starts lasts (x .0) (x .1) (x .2))
   -- a text, or the bytes of a block, in a buffer
   pub text-put : (t l : List ℕ) (at : ℕ) → Determined (λ (x : List ℕ × ℕ). Puts t l at (x .0) (x .1))
   pub text-put-within : (most : ℕ) (t l : List ℕ) (at : ℕ) → Determined (λ (x : List ℕ × ℕ). PutsWithin most t l at (x .0) (x .1))
   -- the journal
   pub journal-left : (w : Left) → Determined (λ (x : ℤ × List ℕ). left (x .0) (x .1) ≡ w)
   pub journal-reported : (v : Verdict) (old : ℕ) → Determined (λ (x : ℤ × ℕ). Reports v old (x .0) (x .1))
+  pub part-audited : (w : Audited) → Determined (λ (x : Stand × MemoryAllocator). audited (x .1) (x .0) ≡ w)
   -- a line of the script: the state, the next place, and every byte of the output
-  pub line-answered : (n : ℕ) (s : MemoryAllocator) (l : Line) (out : List ℕ) (at : ℕ) → Determined (λ (x : Answered × List ℕ). Answers n s l out at (x .0) (x .1))
+  pub line-answered : (n : ℕ) (s : MemoryAllocator) (l : Line) (out : List ℕ) (at : ℕ) → Determined (λ (x : MemoryAllocator × ℕ × List ℕ). Answers n s l out at (x .0) (x .1) (x .2))
+  -- a mapping: the number, every byte of the image and every word of the arena; and its passes
+  pub mapped : (w : maps.Left) → Determined (λ (x : ℤ × List ℕ × List ℕ). maps.left (x .0) (x .1) (x .2) ≡ w)
+  pub pages-asked : (w : Supply) → Determined (λ (x : Bool × List ℕ). supply (x .0) (x .1) ≡ w)
+  pub words-stored : (w : Held) → Determined (λ (x : List ℕ × List ℕ). held (x .0) (x .1) ≡ w)
+  pub pages-met : (w : marks.Run) → Determined (λ (x : Bool × ℕ × List Bool). marks.run (x .0) (x .1) (x .2) ≡ w)

@@ -12,12 +12,12 @@ use Rattle.pool_state.specs.Sound.{bookOf, SoundState}
 use Rattle.pool_state.specs.declared.MemoryAllocator.{MemoryAllocator}
 use Rattle.calls.specs.Calls.{callOf, signedOf, voucherFrom}
 use Rattle.batch.specs.InWords.{ruleOf}
-use Rattle.batch.specs.Lists.{listServed, answered}
 use Rattle.batch.specs.Histories.{Batch, vouchersIn}
 use Rattle.batch.specs.declared.Asked.{Asked}
 use Rattle.batch.specs.declared.Asked.the-variants.{Is, Unknown}
 use Rattle.door_fields.specs.Fields.{askedHere}
 use Rattle.door_own.specs.Own.{judgedHere}
+use Rattle.door_lists.specs.Lists.{listedHere, answeredHere}
 use Rattle.promises.specs.Clients.{Client}
 
 abbrev pub own : ℕ → Engine
@@ -50,12 +50,12 @@ voucherIf Unknown i = []
 abbrev pub ownGives : ℕ → OwnAct → MemoryAllocator → List Voucher
 ownGives n OwnNew s = []
 ownGives n (OwnCall k x y z) s = voucherIf (askedHere k x y z) (signedOf (judgedHere n (ruleOf n (askedHere k x y z)) s .answer))
-ownGives n (OwnList b) s = vouchersIn b (answered n s (b .words) (b .places))
+ownGives n (OwnList b) s = vouchersIn b (answeredHere n s (b .words) (b .places))
 
 abbrev pub ownNext : ℕ → OwnAct → MemoryAllocator → MemoryAllocator
 ownNext n OwnNew s = stateOf n empty
 ownNext n (OwnCall k x y z) s = judgedHere n (ruleOf n (askedHere k x y z)) s .state
-ownNext n (OwnList b) s = listServed n s (b .words) (length (b .places)) .state
+ownNext n (OwnList b) s = listedHere n s (b .words) (length (b .places)) .state
 
 abbrev pub ownClient : (n : ℕ) → Client (own n)
 ownClient n = record { Act = OwnAct; renews = ownRenews; gives = ownGives n; next = ownNext n }

@@ -5,15 +5,16 @@ use mathlib.Core.List.{List, [], _++_}
 use mathlib.Core.Path.{_≡_}
 use Rattle.rules.specs.Rules.{empty}
 use Rattle.pool_state.specs.State.{stateOf}
+use Rattle.pool_state.specs.declared.MemoryAllocator.{MemoryAllocator}
 use Rattle.script_sessions.specs.Sessions.{Run, toldOf, outputOf}
 use Rattle.script_sessions.specs.declared.Session.{Session}
 use Rattle.promises.specs.Lines.{linesFrom, textsOf, inputLeft, InputDemand}
 
 pub record ScriptPromises (n : ℕ) : Type 0 where
   -- once the input has ended, all that was handed to the writer is document 01's output for what was read;
-  pub all-answered : (k : ℕ) (read handed : List ℕ) (s : Session) (carry chunk out : List ℕ) → Run n k read handed s carry chunk out → s .ended ≡ true → handed ≡ outputOf n read
+  pub all-answered : (k : ℕ) (read handed : List ℕ) (m : MemoryAllocator) (s : Session) (carry chunk out : List ℕ) → Run n k read handed m s carry chunk out → s .ended ≡ true → handed ≡ outputOf n read
   -- before, it is a beginning of it, whatever the rest of the input is
-  pub always-beginning : (k : ℕ) (read handed : List ℕ) (s : Session) (carry chunk out : List ℕ) → Run n k read handed s carry chunk out → s .ended ≡ false
+  pub always-beginning : (k : ℕ) (read handed : List ℕ) (m : MemoryAllocator) (s : Session) (carry chunk out : List ℕ) → Run n k read handed m s carry chunk out → s .ended ≡ false
       → (rest : List ℕ) → (w : List ℕ) × (outputOf n (read ++ rest) ≡ handed ++ w)
   -- the state and the text of an input are those of its lines, one after the other
   pub heard-lines : (l : List ℕ) → (toldOf n l .state ≡ inputLeft n l) × (toldOf n l .text ≡ textsOf n (stateOf n empty) (linesFrom [] l))
