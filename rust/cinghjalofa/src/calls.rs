@@ -55,7 +55,16 @@ pub(crate) fn map_address_stage2(
 ) -> Result<(), MemoryError> {
     let (output, input, size) = (physical_address as u64, intermediate_physical_address as u64, map_size as u64);
     let number = library::map_address_stage2(
-        image, arena, base as u64, vttbr_el2, vtcr_el2, output, input, size, is_readable, is_writable,
+        image,
+        arena,
+        base as u64,
+        vttbr_el2,
+        vtcr_el2,
+        output,
+        input,
+        size,
+        is_readable,
+        is_writable,
     );
     result_of(number).map(|_| ())
 }

@@ -146,7 +146,16 @@ impl<'a> LentAllocator<'a> {
     ) -> Result<(), MemoryError> {
         let (output, input) = (physical_address, intermediate_physical_address);
         calls::map_address_stage2(
-            self.image, arena, base, vttbr_el2, vtcr_el2, output, input, map_size, is_readable, is_writable,
+            self.image,
+            arena,
+            base,
+            vttbr_el2,
+            vtcr_el2,
+            output,
+            input,
+            map_size,
+            is_readable,
+            is_writable,
         )
     }
 

@@ -158,7 +158,16 @@ impl MemoryAllocator {
         let mut image = self.image();
         let (output, input) = (physical_address, intermediate_physical_address);
         crate::calls::map_address_stage2(
-            &mut image, arena, base, vttbr_el2, vtcr_el2, output, input, map_size, is_readable, is_writable,
+            &mut image,
+            arena,
+            base,
+            vttbr_el2,
+            vtcr_el2,
+            output,
+            input,
+            map_size,
+            is_readable,
+            is_writable,
         )?;
         result_of(self.own.import(&image)).map(|_| ())
     }

@@ -53,7 +53,8 @@ fn ask(chance: &mut Chance, world: &World) -> Ask {
     let input = ((chance.below(4) << unit) + offset(chance)) % (1 << bits);
     let output = (chance.below(1 << (47 - unit)) << unit) + offset(chance);
     let most = (1u64 << bits) - input;
-    let size = ((chance.below(3) << [12, 21, 30][chance.below(3) as usize]) + (chance.below(3) << 12)).clamp(4096, most);
+    let size =
+        ((chance.below(3) << [12, 21, 30][chance.below(3) as usize]) + (chance.below(3) << 12)).clamp(4096, most);
     let (readable, writable) = (chance.below(2) == 1, chance.below(2) == 1);
     Ask { output, input, size: size & !0xfff, readable, writable }
 }
@@ -66,10 +67,20 @@ fn map_by_module(world: &World, image: Rc<RefCell<Vec<u8>>>, ask: Ask) -> Result
         *door.borrow_mut() = Some(Box::new(move |pages, order| {
             assert_eq!((pages, order), (1, 12));
             let at = take_page(&mut image.borrow_mut());
-            if at < 0 { Err(()) } else { Ok(at as usize) }
+            if at < 0 {
+                Err(())
+            } else {
+                Ok(at as usize)
+            }
         }))
     });
-    stage2::paging::map_address_stage2(ask.output as usize, ask.input as usize, ask.size as usize, ask.readable, ask.writable)
+    stage2::paging::map_address_stage2(
+        ask.output as usize,
+        ask.input as usize,
+        ask.size as usize,
+        ask.readable,
+        ask.writable,
+    )
 }
 
 struct Count {
@@ -129,10 +140,17 @@ fn times(empty: &[u8], real: &mut [u64]) {
         };
         let ask = Ask { output: 0x8000_0000, input: 0x4000_0000, size, readable: true, writable: true };
         let ours = least(200, make, |world| assert_eq!(world.map(ask), 0));
-        let theirs = least(200, || { real.fill(0); make() }, |world| {
-            let image = Rc::new(RefCell::new(std::mem::take(&mut world.image)));
-            assert_eq!(map_by_module(world, image, ask), Ok(()));
-        });
+        let theirs = least(
+            200,
+            || {
+                real.fill(0);
+                make()
+            },
+            |world| {
+                let image = Rc::new(RefCell::new(std::mem::take(&mut world.image)));
+                assert_eq!(map_by_module(world, image, ask), Ok(()));
+            },
+        );
         println!("a map of {name}: {:.1} times the module's time", ours.as_secs_f64() / theirs.as_secs_f64());
     }
 }
