@@ -183,7 +183,7 @@ fn tell_of_the_compiler() {
     impl Tells for Duration {
         const HAS_CORE_ERROR: bool = true;
     }
-    #[allow(unstable_name_collisions)]
+    #[allow(unstable_name_collisions, clippy::incompatible_msrv)]
     let difference = Duration::ZERO.abs_diff(Duration::ZERO);
     if difference.has_core_error() {
         println!("cargo:rustc-check-cfg=cfg(cinghjalofa_core_error)");
