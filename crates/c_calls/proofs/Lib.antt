@@ -1,4 +1,4 @@
--- Laws of the C calls; Demand states demand 3 over the images, Pages the same in pages, Refusals what a refusal leaves.
+-- Laws of the C calls; Demand states demand 3 over the images, Pages the same in pages, Refusals what a refusal leaves, Upgrade what an upgrade returns.
 pub mod Ways
 pub mod Images
 pub mod Refusals

@@ -23,7 +23,9 @@ const CHAIN: [(&str, Clause, Change); 9] = [
     ("two ranges lead to each other beside the chain", Clause::Chain, pair_beside_chain),
     ("the chain begins at its second range", Clause::Chain, |f| f.first = f.chain()[1] as u16),
     ("the chain is lost", Clause::Chain, |f| f.first = NONE),
-    ("the chain goes on into an unused record", Clause::Chain, |f| link_next(f, last(&f.chain()), f.unused()[0] as u16)),
+    ("the chain goes on into an unused record", Clause::Chain, |f| {
+        link_next(f, last(&f.chain()), f.unused()[0] as u16)
+    }),
     ("two neighbours are exchanged on the chain", Clause::Address, |f| {
         let mut chain = f.chain();
         chain.swap(4, 5);
@@ -63,7 +65,9 @@ const OTHER: [(&str, Clause, Change); 17] = [
     ("the length counts the whole image", Clause::Layout, |f| f.rest = IMAGE_BYTES as u32),
     ("the length is one too few", Clause::Layout, |f| f.rest -= 1),
     ("the length is little-endian", Clause::Layout, |f| f.rest = f.rest.swap_bytes()),
-    ("the end of a list is written as version 1's none", Clause::LinkNumber, |f| link_list_next(f, last(&f.list(3)), 65280)),
+    ("the end of a list is written as version 1's none", Clause::LinkNumber, |f| {
+        link_list_next(f, last(&f.list(3)), 65280)
+    }),
     ("a used record says 255 for enabled", Clause::Layout, |f| f.records[f.chain()[4]].enabled = 255),
     ("the first record is number 256", Clause::LinkNumber, |f| f.first = RECORDS as u16),
     ("the end of a list is written as 65534", Clause::LinkNumber, |f| link_list_next(f, last(&f.list(3)), NONE - 1)),

@@ -134,8 +134,14 @@ fn widened(old: &Old) -> Option<Fields> {
     }
     let link = |byte: u8| if byte == OLD_NONE { NONE } else { byte as u16 };
     let number = |bytes: &[u8]| u64::from_be_bytes(bytes[..8].try_into().unwrap());
-    let mut fields =
-        Fields { version: VERSION, rest: REST, total: number(&old[5..]), first: link(old[13]), heads: [NONE; LISTS], records: [FRESH; RECORDS] };
+    let mut fields = Fields {
+        version: VERSION,
+        rest: REST,
+        total: number(&old[5..]),
+        first: link(old[13]),
+        heads: [NONE; LISTS],
+        records: [FRESH; RECORDS],
+    };
     for (head, &byte) in fields.heads.iter_mut().zip(&old[14..OLD_RECORDS_AT]) {
         *head = link(byte);
     }

@@ -91,7 +91,9 @@ impl Sweep<'_> {
     fn two_links(&mut self, image: &Image) {
         let used = Fields::read(image).chain();
         let first_unused = Fields::read(image).unused()[0];
-        let of_record = |record| (LINKS_AT..RECORD_BYTES).step_by(LINK_BYTES).map(move |at| RECORDS_AT + RECORD_BYTES * record + at);
+        let of_record = |record| {
+            (LINKS_AT..RECORD_BYTES).step_by(LINK_BYTES).map(move |at| RECORDS_AT + RECORD_BYTES * record + at)
+        };
         let records = used.into_iter().chain([first_unused]);
         let links: Vec<usize> = (FIRST_AT..RECORDS_AT).step_by(LINK_BYTES).chain(records.flat_map(of_record)).collect();
         for (place, &one) in links.iter().enumerate() {

@@ -1,4 +1,5 @@
-//! Points the crate at the module of MiniVisor: in the folder that MINIVISOR_SRC names, or beside the project.
+//! Points the crate at the module of MiniVisor, with 256 records: in the folder that MINIVISOR_SRC names, or beside the project. One figure of
+//! one line is another, as request T-05 asks; nothing else is changed.
 
 use std::env;
 use std::fs;
@@ -6,6 +7,8 @@ use std::path::{Path, PathBuf};
 use std::process::exit;
 
 const PAGE_SHIFT: &str = "pub const PAGE_SHIFT: usize = 12;";
+const FEWER_RECORDS: &str = "    const POOL_SIZE: usize = 64;\n";
+const RECORDS: &str = "    const POOL_SIZE: usize = 256;\n";
 
 fn main() {
     println!("cargo:rerun-if-env-changed=MINIVISOR_SRC");
@@ -18,8 +21,14 @@ fn main() {
     if !fs::read_to_string(sources.join("paging.rs")).map_or(false, |text| text.contains(PAGE_SHIFT)) {
         fail(&format!("paging.rs beside {} does not say `{PAGE_SHIFT}`", module.display()));
     }
-    let root = format!("mod paging {{\n    {PAGE_SHIFT}\n}}\n#[path = {module:?}]\npub mod memory_allocator;\n");
+    let text = fs::read_to_string(&module).unwrap_or_else(|problem| fail(&problem.to_string()));
+    if text.matches(FEWER_RECORDS).count() != 1 {
+        fail(&format!("{} does not say `{}` once", module.display(), FEWER_RECORDS.trim()));
+    }
     let out = PathBuf::from(env::var_os("OUT_DIR").unwrap_or_else(|| fail("cargo has set no OUT_DIR")));
+    let copy = out.join("memory_allocator.rs");
+    fs::write(&copy, text.replace(FEWER_RECORDS, RECORDS)).unwrap_or_else(|problem| fail(&problem.to_string()));
+    let root = format!("mod paging {{\n    {PAGE_SHIFT}\n}}\n#[path = {copy:?}]\npub mod memory_allocator;\n");
     fs::write(out.join("root.rs"), root).unwrap_or_else(|problem| fail(&problem.to_string()));
 }
 
