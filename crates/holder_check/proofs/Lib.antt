@@ -3,3 +3,4 @@ pub mod Spans
 pub mod Entries
 pub mod Listed
 pub mod Owned
+pub mod Exact

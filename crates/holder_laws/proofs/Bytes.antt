@@ -54,7 +54,7 @@ held← h r x q i e a b = any← (holdsFor h x) (held r) q i
 -- ---- counting
 
 -- p′ passes the bytes of the piece besides, and p none of them
-count-more : (a t : ℕ) (p p′ : ℕ → Bool) → a ≤ t → ((x : ℕ) → p′ x ≡ cond (inside a t x) true (p x)) → ((x : ℕ) → T (inside a t x) → p x ≡ false)
+pub count-more : (a t : ℕ) (p p′ : ℕ → Bool) → a ≤ t → ((x : ℕ) → p′ x ≡ cond (inside a t x) true (p x)) → ((x : ℕ) → T (inside a t x) → p x ≡ false)
     → (m : ℕ) → count m p′ ≡ count m p + (min t m - min a m)
 unfolding count
 count-more a t p p′ h f g zero = omega arith

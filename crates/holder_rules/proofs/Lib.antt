@@ -1,2 +1,3 @@
--- What is known of a register that is held by value.
+-- What is known of a register that is held by value, and the claim about the cases.
 pub mod Owned
+pub mod Cases

@@ -1,5 +1,6 @@
--- Request T-07: the register, the calls, what is sound, and the state that code has.
+-- Request T-07: the register, the calls, what is sound, the state that code has, and cases.
 pub mod Register
 pub mod Holders
 pub mod Sound
 pub mod States
+pub mod Cases
