@@ -12,6 +12,8 @@ use Rattle.calls.specs.declared.Answer.{Answer}
 use Rattle.calls.specs.declared.Counted.{Counted}
 use Rattle.calls.specs.declared.Outcome.{Outcome}
 use Rattle.core_accounts.specs.Accounts as accounts
+use Rattle.holder_rules.specs.declared.HolderAllocator.{HolderAllocator}
+use Rattle.holder_lists.specs.Accounts.{FreeLists}
 use Rattle.batch.specs.Lists.{Serves, Served}
 use Rattle.image_parts.specs.Layout.{Layout}
 use Rattle.image.specs.Reading.{Handed, handed}
@@ -45,8 +47,9 @@ pub record EachDetermined : Type 1 where
   pub equation : {X : Type 0} (v : X) → Determined (λ (x : X). x ≡ v)
   -- a state that is lent in place: the answer, and the state behind the reference
   pub door-does : (core : MemoryAllocator → Outcome) (m : MemoryAllocator) → Determined (λ (x : Answer × MemoryAllocator). Does core (x .0) m (x .1))
-  -- the listing, and a list of calls
+  -- the listing, also where there is a register, and a list of calls
   pub listing : (n : ℕ) (s : MemoryAllocator) (starts lasts : List ℕ) → Determined (λ (x : Counted × List ℕ × List ℕ). accounts.Lists n s starts lasts (x .0) (x .1) (x .2))
+  pub free-listed : (n : ℕ) (s : HolderAllocator) (starts lasts : List ℕ) → Determined (λ (x : Counted × List ℕ × List ℕ). FreeLists n s starts lasts (x .0) (x .1) (x .2))
   pub list-served : (n : ℕ) (s : MemoryAllocator) (l : List ℕ) (old : List ℤ) → Determined (λ (x : Outcome × List ℤ). Serves n s l old (x .0) (x .1))
   pub sound-list-served : (n : ℕ) (s : MemoryAllocator) (l : List ℕ) (old : List ℤ) → Determined (λ (x : MemoryAllocator × List ℤ). Served n s l old (x .0) (x .1))
   -- images
