@@ -173,8 +173,8 @@ int64_t cinghjalofa_free_pages(uint8_t *image, size_t len, uint64_t address, uin
  */
 int64_t cinghjalofa_map_address_stage2(uint8_t *image, size_t len, uint64_t *arena, size_t arena_words, uint64_t arena_base,
                                        uint64_t vttbr_el2, uint64_t vtcr_el2, uint64_t physical_address,
-                                       uint64_t intermediate_physical_address, uint64_t map_size, bool is_readable,
-                                       bool is_writable);
+                                       uint64_t intermediate_physical_address, uint64_t map_size, cinghjalofa_bool is_readable,
+                                       cinghjalofa_bool is_writable);
 
 /*
  * Serves the `words / 4` calls of a list in order, and writes the answer of each, as the call made singly would answer it,

@@ -72,13 +72,17 @@ make_keeping_kit() {
   chmod +x "$work/kit/$here/toolchain/bin/clang"
 }
 
+# is_kept CRATE: rt hands on a module only while it proves; one that is of the files of now stays as it is
+is_kept() { [ "$(cat "target/module/$1/of" 2>/dev/null)" = "$(digest tools/module.sh)" ]; }
+
 keep_module() {
+  ! { is_kept "$1" && [ -f "target/staticlib/lib$1.a" ]; } || return 0
   say "$1 and the crates below it are proved first, which takes some minutes the first time"
   keep_of "$1" staticlib
 }
 
-# rt hands on the module of a program that it has not proved yet
 keep_program() {
+  ! is_kept "$1" || return 0
   rm -f "target/stamp/$1"
   keep_of "$1" check
 }
@@ -95,6 +99,7 @@ keep_of() {
   cp "$work/words" "$kept/words"
   "$clang" "$(grep '^--target=' "$kept/words")" -x ir "$work/module.bc" -S -emit-llvm -Xclang -disable-llvm-passes \
     -o "$kept/x86_64.ll"
+  digest tools/module.sh >"$kept/of"
 }
 
 declare -A own_lines=() # of each kind, the lines of a module that name its target

@@ -103,10 +103,13 @@ def unchanged(scratch):
     line = "the library is of the files of now, for each kind of machine: nothing is to be done\n"
     wrong = scratch.run(["tools/archives"]).problem(0, line, "") or different(scratch.asked(), [])
     yield "tools/archives does nothing where nothing has changed, and says so", wrong
-    changes = {"an archive is damaged": lambda: archive.write_bytes(b""), "a file has changed": lambda: scratch.write_program("# new\n")}
-    for what, change in changes.items():
+    changes = {
+        "an archive is damaged": (lambda: archive.write_bytes(b""), []),  # the modules are kept
+        "a file has changed": (lambda: scratch.write_program("# new\n"), LIBRARY),
+    }
+    for what, (change, asked) in changes.items():
         change()
-        wrong = scratch.run(["tools/archives"]).problem(0, None, None) or different(scratch.asked(), LIBRARY)
+        wrong = scratch.run(["tools/archives"]).problem(0, None, None) or different(scratch.asked(), asked)
         yield f"tools/archives makes them again where {what}", wrong
 
 

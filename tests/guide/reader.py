@@ -11,7 +11,7 @@ from dataclasses import dataclass
 from pathlib import Path
 
 LEFT_OUT = {".git", "target", "__pycache__"}
-PROVED = ("bin", "log", "obj", "stamp")  # what rt keeps of proved crates; all else is made anew
+PROVED = ("bin", "log", "obj", "stamp", "staticlib", "module", "run")  # what is kept of proved crates and programs; all else is made anew
 LONGEST_SECONDS = 900
 OWN_SETTINGS = ("CARGO_TARGET_DIR", "CINGHJALOFA_ARCHIVE")  # of whoever starts the suite, not of a reader
 

@@ -11,13 +11,13 @@ extern "C" {
     fn mmap(at: *mut u8, size: usize, how: i32, flags: i32, file: i32, offset: i64) -> *mut u8;
 }
 
-const BASE: u64 = 0x40_0000_0000;
+const BASE: u64 = 0x20_0000_0000; // where neither a system nor an emulator puts anything of its own
 const PAGES: u64 = 96;
 
 /// The arena at its true address: the module follows table words as pointers.
 fn memory() -> &'static mut [u64] {
-    // read and write; private, fixed and not replacing what is there, anonymous
-    let at = unsafe { mmap(BASE as *mut u8, (PAGES * 4096) as usize, 3, 0x10_0022, -1, 0) };
+    // read and write; private, fixed, anonymous. (An emulator knows no flag that asks not to replace what is there; nothing is there.)
+    let at = unsafe { mmap(BASE as *mut u8, (PAGES * 4096) as usize, 3, 0x32, -1, 0) };
     assert_eq!(at as u64, BASE, "the arena's address is not to be had");
     unsafe { std::slice::from_raw_parts_mut(at as *mut u64, (PAGES * 512) as usize) }
 }
