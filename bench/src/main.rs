@@ -42,7 +42,7 @@ use contenders::Contender;
 use measure::Effort;
 use workload::Workload;
 
-const FREE_RANGES: [usize; 3] = [5, 25, 50];
+const FREE_RANGES: [usize; 3] = [5, 50, 250];
 const SMOKE: Effort = Effort { calls: 2_000, stretch: 200, rounds: 1 };
 const FULL: Effort = Effort { calls: 20_000, stretch: 200, rounds: 100 };
 
