@@ -207,7 +207,7 @@ int64_t cinghjalofa_listing(const uint8_t *image, size_t len, uint64_t *starts, 
 CINGHJALOFA_INLINE const char *cinghjalofa_text(int64_t answer) {
     if (answer >= 0) return "accepted";
     if (answer == CINGHJALOFA_NO_ENTRY) return "a record is needed and none is unused";
-    if (answer == CINGHJALOFA_INVALID_ENTRY) return "the bytes are no image of a sound allocator";
+    if (answer == CINGHJALOFA_INVALID_ENTRY) return "the state, or the image, is not that of a sound allocator";
     if (answer == CINGHJALOFA_NO_MEMORY) return "too few bytes are free, or no free range fits";
     if (answer == CINGHJALOFA_INVALID_REQUEST) return "the request cannot be right: its size, order, addresses or places";
     return "no answer of this library";
