@@ -15,6 +15,8 @@
  *   No two calls over the same image run at the same time: the library takes no lock. Calls over different images
  *   may run side by side.
  *   Nothing is owed about the contents or about the numbers: every call ends with one of the answers below.
+ *   A call takes less than 8192 bytes of stack, most of it for the fields of the state while it is served; tests/guide measures it. A map takes more: it
+ *   tries its pages on a copy of the image.
  *
  * The answer
  *   0 or more: accepted. It is the address for cinghjalofa_allocate and cinghjalofa_allocate_pages, the number of ranges for

@@ -5,7 +5,7 @@ import subprocess
 import tempfile
 from pathlib import Path
 
-COPIED = ("tests/cases.txt", "tests/cases.py", "tools/cases", "crates/rules/specs", "crates/script/stdin", "crates/script/stdout")
+COPIED = ("tests/cases.txt", "tests/cases.py", "tests/holders.txt", "tests/holders.py", "tools/cases", "crates/rules/specs", "crates/holder_rules/specs", "crates/script/stdin", "crates/script/stdout")
 TABLE, LEDGER, TRIALS, EXAMPLE = "tests/cases.txt", "crates/rules/specs/Ledger.antt", "crates/rules/specs/Trials.antt", "crates/script/stdout"
 
 # what is wrong then; the file; what stands there once; what stands there instead; what must be said
