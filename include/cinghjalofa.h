@@ -212,8 +212,65 @@ CINGHJALOFA_INLINE const char *cinghjalofa_text(int64_t answer) {
     if (answer == CINGHJALOFA_INVALID_ENTRY) return "the state, or the image, is not that of a sound allocator";
     if (answer == CINGHJALOFA_NO_MEMORY) return "too few bytes are free, or no free range fits";
     if (answer == CINGHJALOFA_INVALID_REQUEST) return "the request cannot be right: its size, order, addresses or places";
+    if (answer == -5) return "not exactly a range handed to this holder, or bytes that are held";
+    if (answer == -6) return "all entries of the register are used";
     return "no answer of this library";
 }
+
+/*
+ * The allocator with a register of who holds what: the same image inside, and 64 entries before it. The register's bytes: version 1;
+ * the length of the rest in 4; from byte 5 on 17 for each entry: its holder, or 0 where it is not used, its first byte in 8 and its
+ * last in 8, all 0 where it is not used; from byte CINGHJALOFA_HOLDERS_MEMORY on the allocator's image. That part may be lent to
+ * cinghjalofa_total and cinghjalofa_listing; it must not be lent to a call that changes it, which knows no register.
+ *
+ * Each call checks length, register and allocator before all else. It takes less than 32768 bytes of stack: the allocator is asked on a
+ * copy of its image, so that a refusal changes no byte.
+ */
+#define CINGHJALOFA_HOLDERS_MEMORY 1093
+#define CINGHJALOFA_HOLDERS_IMAGE_BYTES (CINGHJALOFA_HOLDERS_MEMORY + CINGHJALOFA_IMAGE_BYTES)
+#define CINGHJALOFA_HOLDERS 16         /* holders are 1 to 16 */
+#define CINGHJALOFA_HELD_RANGES 64     /* of all holders together */
+#define CINGHJALOFA_NOT_YOURS (-5)     /* not exactly a range handed to this holder; or an offer of held bytes */
+#define CINGHJALOFA_REGISTER_FULL (-6) /* the allocator would accept, and all entries are used */
+
+/*
+ * Writes the image of the empty allocator with an empty register over whatever is there, and answers 0.
+ *   -2  len is not CINGHJALOFA_HOLDERS_IMAGE_BYTES
+ */
+int64_t cinghjalofa_holders_new(uint8_t *image, size_t len);
+
+/*
+ * The board offers bytes: they become free. Answers 0.
+ *   -2  len is not CINGHJALOFA_HOLDERS_IMAGE_BYTES, or the image is not sound
+ *   -4  size is 0, start + size is above 2^63, or one of the bytes is free already
+ *   -5  one of the bytes is held
+ *   -1  the bytes touch no free range and all records are used
+ */
+int64_t cinghjalofa_holders_offer(uint8_t *image, size_t len, uint64_t start, uint64_t size);
+
+/*
+ * Takes bytes for `holder`, as cinghjalofa_allocate does, and enters them. Answers the address.
+ *   -2  len is not CINGHJALOFA_HOLDERS_IMAGE_BYTES, or the image is not sound
+ *   -4  holder is not 1 to 16
+ *   then what cinghjalofa_allocate refuses: -4, -3, -1
+ *   -6  all entries are used
+ */
+int64_t cinghjalofa_holders_allocate(uint8_t *image, size_t len, uint64_t holder, uint64_t size, uint64_t order);
+
+/*
+ * Takes these bytes, widened, for `holder`, as cinghjalofa_reserve_memory does, and enters the widened range. Answers 0.
+ *   refusals as above, with those of cinghjalofa_reserve_memory in the middle
+ */
+int64_t cinghjalofa_holders_reserve_memory(uint8_t *image, size_t len, uint64_t holder, uint64_t start, uint64_t size, uint64_t order);
+
+/*
+ * `holder` hands back a range exactly as it was handed out: the address and size of an allocate, the widened range of a reserve. Answers 0.
+ *   -2  len is not CINGHJALOFA_HOLDERS_IMAGE_BYTES, or the image is not sound
+ *   -4  holder is not 1 to 16, size is 0, start + size is above 2^63, or one of the bytes is free already
+ *   -5  it is not exactly a range handed to this holder
+ *   -1  the bytes touch no free range and all records are used: the range stays held
+ */
+int64_t cinghjalofa_holders_free(uint8_t *image, size_t len, uint64_t holder, uint64_t start, uint64_t size);
 
 /*
  * A journal: the version byte, then a block for each call with its answer. A block is the length of what follows in 2 bytes,

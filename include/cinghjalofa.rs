@@ -39,6 +39,19 @@ pub const INVALID_ENTRY: i64 = -2;
 pub const NO_MEMORY: i64 = -3;
 /// Size or count 0, order above 63, or a bad or overlapping range.
 pub const INVALID_REQUEST: i64 = -4;
+/// Not exactly a range handed to this holder; or an offer of held bytes.
+pub const NOT_YOURS: i64 = -5;
+/// The allocator would accept, and all entries of the register are used.
+pub const REGISTER_FULL: i64 = -6;
+
+/// Where the allocator's image stands in the image of an allocator with a register: behind 5 bytes, and 17 for each entry.
+pub const HOLDERS_MEMORY: usize = 1093;
+/// The length of such an image.
+pub const HOLDERS_IMAGE_BYTES: usize = HOLDERS_MEMORY + IMAGE_BYTES;
+/// Holders are 1 to 16.
+pub const HOLDERS: u64 = 16;
+/// Held ranges, of all holders together.
+pub const HELD_RANGES: usize = 64;
 
 /// The kinds of call in a list: a free has a start and a size,
 pub const FREE: u64 = 1;
@@ -132,6 +145,18 @@ foreign! { _;
         lasts: *mut u64,
         lasts_len: usize,
     ) -> i64;
+    pub fn cinghjalofa_holders_new(image: *mut u8, len: usize) -> i64;
+    pub fn cinghjalofa_holders_offer(image: *mut u8, len: usize, start: u64, size: u64) -> i64;
+    pub fn cinghjalofa_holders_allocate(image: *mut u8, len: usize, holder: u64, size: u64, order: u64) -> i64;
+    pub fn cinghjalofa_holders_reserve_memory(
+        image: *mut u8,
+        len: usize,
+        holder: u64,
+        start: u64,
+        size: u64,
+        order: u64,
+    ) -> i64;
+    pub fn cinghjalofa_holders_free(image: *mut u8, len: usize, holder: u64, start: u64, size: u64) -> i64;
     pub fn cinghjalofa_journal_begin(journal: *mut u8, len: usize) -> i64;
     pub fn cinghjalofa_journal_write(
         journal: *mut u8,

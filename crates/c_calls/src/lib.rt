@@ -7,7 +7,7 @@ use image_upgrade::upgrade_image;
 use image_writing::write_fields;
 use memory_allocator::Address;
 use memory_allocator::Request;
-use over::call_over;
+pub use over::call_over;
 use pages::bytes_of;
 use pages::freed_bytes;
 use pages::raised_order;

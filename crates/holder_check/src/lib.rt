@@ -92,7 +92,7 @@ fn is_entry_sound(
 }
 
 // Whether the register is sound beside the first `count` ranges of a listing.
-fn is_register_sound(register: Register, starts: &[u64], lasts: &[u64], count: usize) -> bool
+pub fn is_register_sound(register: Register, starts: &[u64], lasts: &[u64], count: usize) -> bool
     requires { ⌜ (count ≤ length (now starts)) × (count ≤ length (now lasts)) ⌝ }
     ensures { λ b. ⌜ b ≡ registerSound (spans count (now (starts .entry)) (now (lasts .entry))) (register .entries) ⌝ }
 {

@@ -18,7 +18,7 @@ use holder_rules::Register;
 use memory_allocator::Answer;
 use memory_allocator::Outcome;
 use memory_allocator::Request;
-use pieces::piece_of;
+pub use pieces::piece_of;
 use pool_state::Address;
 ghost use mathlib.Core.Bool.{true, not};
 ghost use mathlib.Core.Path.{_≡_};

@@ -1,0 +1,2 @@
+-- What the contracts of the register's C calls cite.
+pub mod Calls

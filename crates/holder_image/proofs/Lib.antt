@@ -1,0 +1,2 @@
+-- Parts of the register's image.
+pub mod Parts

@@ -1,0 +1,134 @@
+-- Parts of the register's image: their lengths, and what is read where. Assumes nothing.
+use Prim.Native.Nat.{ℕ, _+_, _-_, _*_, _≤_, _<_}
+use mathlib.Core.Bool.{Bool, true, false, _&&_}
+use mathlib.Core.List.{List, [], _++_, append-nil, append-assoc}
+use mathlib.Core.Path.{_≡_, refl, sym, ap, _∙_}
+use native.Mathlib.Nat.{zero-add}
+use native.Mathlib.Numerals.{add-one}
+use native.Mathlib.Omega.{arith}
+use lib.Dec.{eqb}
+use lib.ListN.{length, getD, set, take, drop, length-append, length-take, length-drop, length-set, drop-of-length-le}
+use lib.Seq.{take-at, drop-at, drop-drop, take-add, take-take, length-take-le, getD-drop, paste, paste-zero, paste-suc, take-length}
+use borrow.Author.Tests.{eq-eqb, ne-eqb}
+use Rattle.bytes_be.specs.Numbers.{number}
+use Rattle.bytes_be.proofs.Laws.{length-be}
+use Rattle.pool_listing.specs.Listing.{written}
+use Rattle.pool_listing.proofs.Writing.{partly, partly-on, partly-all}
+use Rattle.image_parts.specs.Layout.{Layout, word, lengthAt, lengthSize}
+use Rattle.image_parts.specs.Read.{numberIn}
+use Rattle.image_parts.proofs.Parts.{length-joined}
+use Rattle.holder_rules.specs.Register.{entries, entry, blank}
+use Rattle.holder_rules.specs.Holders.{both}
+use Rattle.holder_rules.specs.declared.Entry.{Entry}
+use Rattle.holder_image.specs.Layout.{version, entriesAt, startAt, lastAt, entrySize, memoryAt, wholeSize, restOf}
+use Rattle.holder_image.specs.Bytes.{entryBytes, entriesBytes, frontBytes, bytesOf, entryIn, entryAt, memoryIn, headed}
+
+-- ---- lengths
+
+pub length-entry : (e : Entry) → length (entryBytes e) ≡ entrySize
+unfolding entryBytes
+length-entry e = simp (length-append, length-be)
+
+pub length-entries : (r : List Entry) → length (entriesBytes r) ≡ entrySize * entries
+unfolding entriesBytes
+length-entries r = length-joined entrySize (λ i. entryBytes (getD r i blank)) (λ i. length-entry (getD r i blank)) entries 0
+
+-- ---- an entry in its own bytes
+
+-- k bytes at o in the w bytes from a on
+number-within : (l : List ℕ) (a w o k : ℕ) → o + k ≤ w → a + w ≤ length l → numberIn (take w (drop a l)) o k ≡ numberIn l (a + o) k
+number-within l a w o k h g =
+    let m = w - o in
+    let s : w ≡ o + m = omega arith in
+    let n : length (take o (drop a l)) ≡ o = simp (length-take, length-drop) (omega arith) in
+    ap number (ap (λ (x : List ℕ). take k (drop o x)) (ap (λ (j : ℕ). take j (drop a l)) s ∙ take-add o m (drop a l))
+    ∙ ap (take k) (drop-at (take o (drop a l)) (take m (drop o (drop a l))) o n)
+    ∙ take-take k m (drop o (drop a l)) (omega arith) ∙ ap (take k) (drop-drop o a l))
+
+pub entry-within : (l : List ℕ) (i at : ℕ) → i < entries → memoryAt ≤ length l → at ≡ entriesAt + entrySize * i → (e : Entry) → e ≡ entryIn (take (at + entrySize - at) (drop at l)) → e ≡ entryAt l i
+entry-within l i at b room d e g =
+    let w : at + entrySize - at ≡ entrySize = omega arith in
+    let x = number-within l at entrySize 0 startAt (omega arith) (omega arith) ∙ ap (λ (j : ℕ). numberIn l j startAt) (let v : at + 0 ≡ entriesAt + entrySize * i = omega arith in v) in
+    let y = number-within l at entrySize startAt word (omega arith) (omega arith) ∙ ap (λ (j : ℕ). numberIn l j word) (let v : at + startAt ≡ entriesAt + startAt + entrySize * i = omega arith in v) in
+    let z = number-within l at entrySize lastAt word (omega arith) (omega arith) ∙ ap (λ (j : ℕ). numberIn l j word) (let v : at + lastAt ≡ entriesAt + lastAt + entrySize * i = omega arith in v) in
+    g ∙ ap (λ (n : ℕ). entryIn (take n (drop at l))) w ∙ (λ j. entry (x j) (y j) (z j))
+
+-- ---- the head
+
+module _ (f : Layout) (l : List ℕ) where
+  pub headed-not : (length l ≡ wholeSize f → ⊥) → false ≡ headed f l
+  unfolding headed
+  headed-not h = rw (ne-eqb (length l) (wholeSize f) h)
+
+  module _ (h : length l ≡ wholeSize f) (v : ℕ) (ev : v ≡ numberIn l 0 lengthAt) where
+    pub headed-version : (v ≡ version → ⊥) → false ≡ headed f l
+    unfolding headed
+    headed-version off = rw (eq-eqb (length l) (wholeSize f) h, ← ev, ne-eqb v version off)
+
+    pub headed-rest : v ≡ version → (r : ℕ) → r ≡ numberIn l lengthAt lengthSize → eqb r (restOf f) ≡ headed f l
+    unfolding headed
+    headed-rest on r er = rw (eq-eqb (length l) (wholeSize f) h, ← ev, eq-eqb v version on, ← er)
+
+-- ---- the allocator's bytes, copied out
+
+pub record Copying (l old now : List ℕ) (i : ℕ) : Type 0 where
+  pub within : i ≤ length old
+  pub same-length : length now ≡ length old
+  pub so-far : now ≡ partly (memoryIn l) i old
+
+module _ (l old : List ℕ) (h : length l ≡ memoryAt + length old) where
+  pub copy-start : Copying l old old 0
+  copy-start = record { within = omega arith; same-length = refl; so-far = refl }
+
+  sized : length (memoryIn l) ≡ length old
+  sized = let s = length-drop memoryAt l in omega arith
+
+  module _ (now : List ℕ) (i v : ℕ) (m : Copying l old now i) where
+    pub copy-on : i < length now → v ≡ getD l (memoryAt + i) 0 → Copying l old (set now i v) (i + 1)
+    copy-on b e =
+        let s = m .same-length in let z = sized in
+        record {
+          within = omega arith;
+          same-length = length-set now i v ∙ s;
+          so-far = partly-on (memoryIn l) old now i (m .so-far) 0 v (e ∙ sym (getD-drop memoryAt l i 0)) (omega arith) (omega arith);
+        }
+
+    pub copy-end : length now ≤ i → now ≡ memoryIn l
+    copy-end b =
+        let s = m .same-length in let z = sized in let w = m .within in
+        let e : i ≡ length (memoryIn l) = omega arith in
+        partly-all (memoryIn l) old now i (m .so-far) e
+        ∙ ap (λ (x : List ℕ). memoryIn l ++ x) (drop-of-length-le old {i = length (memoryIn l)} (omega arith)) ∙ append-nil (memoryIn l)
+
+-- ---- and in
+
+pub record Putting (old memory now : List ℕ) (i : ℕ) : Type 0 where
+  pub within : i ≤ length memory
+  pub same-length : length now ≡ length old
+  pub so-far : now ≡ paste old memoryAt memory i
+
+module _ (old memory : List ℕ) (h : length old ≡ memoryAt + length memory) where
+  pub putting-start : Putting old memory old 0
+  putting-start = record { within = omega arith; same-length = refl; so-far = paste-zero old memoryAt memory }
+
+  module _ (now : List ℕ) (i : ℕ) (m : Putting old memory now i) where
+    pub putting-on : i < length memory → (v : ℕ) → v ≡ getD memory i 0 → Putting old memory (set now (memoryAt + i) v) (i + 1)
+    putting-on b v e =
+        record {
+          within = omega arith;
+          same-length = length-set now (memoryAt + i) v ∙ m .same-length;
+          so-far = (λ j. set (m .so-far j) (memoryAt + i) (e j)) ∙ paste-suc old memoryAt memory i 0 (omega arith) b ∙ ap (λ (j : ℕ). paste old memoryAt memory j) (sym (add-one i));
+        }
+
+    pub putting-end : length memory ≤ i → now ≡ take memoryAt old ++ memory
+    putting-end b =
+        let w = m .within in
+        let e : i ≡ length memory = omega arith in
+        m .so-far ∙ ap (λ (j : ℕ). paste old memoryAt memory j) e
+        ∙ (let p = take-length memory in let q = drop-of-length-le old {i = memoryAt + length memory} (omega arith) in (λ j. take memoryAt old ++ p j ++ q j))
+        ∙ append-nil (take memoryAt old ++ memory)
+
+pub placed : (f : Layout) (old now now′ memory : List ℕ) (r : List Entry) → length old ≡ wholeSize f → now ≡ take memoryAt old ++ memory → now′ ≡ frontBytes f r ++ memoryIn now → now′ ≡ bytesOf f (both memory r)
+unfolding bytesOf
+placed f old now now′ memory r h e g =
+    g ∙ ap (λ (x : List ℕ). frontBytes f r ++ x) (ap memoryIn e ∙ drop-at (take memoryAt old) memory memoryAt (length-take-le memoryAt old (omega arith)))

@@ -1,0 +1,3 @@
+-- The register's image: its layout and its bytes.
+pub mod Layout
+pub mod Bytes
