@@ -427,6 +427,45 @@ pub fn listing(image: &[u8], starts: &mut [u64], lasts: &mut [u64]) -> i64 {
     unsafe { cinghjalofa_listing(image.as_ptr(), len, starts.as_mut_ptr(), places, lasts.as_mut_ptr(), last_places) }
 }
 
+/// Writes the image of the empty allocator with an empty register over whatever is there, and answers 0.
+/// - -2: the slice is not `HOLDERS_IMAGE_BYTES` long; so in each of the four below, or the image is not sound
+pub fn holders_new(image: &mut [u8]) -> i64 {
+    unsafe { cinghjalofa_holders_new(image.as_mut_ptr(), image.len()) }
+}
+
+/// The board offers bytes: they become free. Answers 0.
+/// - -4: `size` is 0, `start + size` is above 2^63, or one of the bytes is free already
+/// - -5: one of the bytes is held
+/// - -1: the bytes touch no free range and all records are used
+pub fn holders_offer(image: &mut [u8], start: u64, size: u64) -> i64 {
+    unsafe { cinghjalofa_holders_offer(image.as_mut_ptr(), image.len(), start, size) }
+}
+
+/// Takes bytes for `holder`, as `allocate` does, and enters them. Answers the address.
+/// - -4: `holder` is not 1 to 16
+/// - -4, -3, -1: what `allocate` refuses
+/// - -6: all entries are used
+pub fn holders_allocate(image: &mut [u8], holder: u64, size: u64, order: u64) -> i64 {
+    unsafe { cinghjalofa_holders_allocate(image.as_mut_ptr(), image.len(), holder, size, order) }
+}
+
+/// Takes these bytes, widened, for `holder`, as `reserve_memory` does, and enters the widened range. Answers 0.
+/// - -4: `holder` is not 1 to 16
+/// - -4, -3, -1: what `reserve_memory` refuses
+/// - -6: all entries are used
+pub fn holders_reserve_memory(image: &mut [u8], holder: u64, start: u64, size: u64, order: u64) -> i64 {
+    unsafe { cinghjalofa_holders_reserve_memory(image.as_mut_ptr(), image.len(), holder, start, size, order) }
+}
+
+/// `holder` hands back a range exactly as it was handed out: the address and size of an allocation, the widened range of a
+/// reserve. Answers 0.
+/// - -4: `holder` is not 1 to 16, `size` is 0, `start + size` is above 2^63, or one of the bytes is free already
+/// - -5: it is not exactly a range handed to this holder
+/// - -1: the bytes touch no free range and all records are used: the range stays held
+pub fn holders_free(image: &mut [u8], holder: u64, start: u64, size: u64) -> i64 {
+    unsafe { cinghjalofa_holders_free(image.as_mut_ptr(), image.len(), holder, start, size) }
+}
+
 /// Writes the version byte of a journal. Answers 1, the place of the first block.
 /// - -4: the slice is empty
 pub fn journal_begin(journal: &mut [u8]) -> i64 {
