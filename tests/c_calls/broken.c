@@ -27,6 +27,11 @@ int64_t __real_cinghjalofa_free_pages(uint8_t *image, size_t len, uint64_t addre
 int64_t __real_cinghjalofa_batch(uint8_t *image, size_t len, const uint64_t *calls, size_t words, int64_t *answers, size_t places);
 int64_t __real_cinghjalofa_total(const uint8_t *image, size_t len, uint64_t *total);
 int64_t __real_cinghjalofa_listing(const uint8_t *image, size_t len, uint64_t *starts, size_t starts_len, uint64_t *lasts, size_t lasts_len);
+int64_t __real_cinghjalofa_holders_new(uint8_t *image, size_t len);
+int64_t __real_cinghjalofa_holders_offer(uint8_t *image, size_t len, uint64_t start, uint64_t size);
+int64_t __real_cinghjalofa_holders_allocate(uint8_t *image, size_t len, uint64_t holder, uint64_t size, uint64_t order);
+int64_t __real_cinghjalofa_holders_reserve_memory(uint8_t *image, size_t len, uint64_t holder, uint64_t start, uint64_t size, uint64_t order);
+int64_t __real_cinghjalofa_holders_free(uint8_t *image, size_t len, uint64_t holder, uint64_t start, uint64_t size);
 
 static uint8_t old_image[IMAGE_BYTES];
 
@@ -323,4 +328,131 @@ int64_t __wrap_cinghjalofa_listing(const uint8_t *image, size_t len, uint64_t *s
     for (int64_t i = 0; i < answer && is_breakage("lasts-exclusive"); i++)
         lasts[i]++;
     return answer;
+}
+
+/* ---- With holders */
+
+#define HOLDERS_IMAGE_BYTES CINGHJALOFA_HOLDERS_IMAGE_BYTES
+#define MEMORY_AT (HOLDERS_IMAGE_BYTES - IMAGE_BYTES)
+#define ENTRY_BYTES 17
+
+static uint8_t *entry_at(uint8_t *image, int number)
+{
+    return image + 5 + ENTRY_BYTES * number;
+}
+
+static void put_number(uint8_t *bytes, uint64_t number)
+{
+    for (int i = 0; i < 8; i++)
+        bytes[i] = (uint8_t)(number >> (56 - 8 * i));
+}
+
+/* The entry of exactly these bytes, of this holder; of anybody, if it is 0. */
+static uint8_t *exactly(uint8_t *image, uint64_t holder, uint64_t start, uint64_t size)
+{
+    for (int k = 0; k < CINGHJALOFA_HELD_RANGES; k++) {
+        uint8_t *entry = entry_at(image, k);
+        if (entry[0] != 0 && (holder == 0 || entry[0] == holder) && number_at(entry + 1) == start && number_at(entry + 9) == start + size - 1)
+            return entry;
+    }
+    return NULL;
+}
+
+/* Before any call: the number of the holder that the broken port takes. */
+static uint64_t begin_holders(uint8_t *image, size_t len, uint64_t holder)
+{
+    if (len == HOLDERS_IMAGE_BYTES && is_breakage("holders-left-over"))
+        for (int k = 0; k < CINGHJALOFA_HELD_RANGES; k++)
+            if (entry_at(image, k)[0] == 0)
+                memset(entry_at(image, k), 0, ENTRY_BYTES);
+    return is_breakage("holders-cut") ? holder % 256 : holder;
+}
+
+/* After it. */
+static int64_t end_holders(uint8_t *image, size_t len, int64_t answer)
+{
+    if (is_breakage("holders-refusal-writes") && answer < 0 && len == HOLDERS_IMAGE_BYTES)
+        entry_at(image, CINGHJALOFA_HELD_RANGES - 1)[16] ^= 1;
+    return answer;
+}
+
+/* After an accepted take of the bytes from `start` on: its entry goes to the highest unused one. */
+static void move_entry(uint8_t *image, uint8_t *entry)
+{
+    for (int k = CINGHJALOFA_HELD_RANGES - 1; entry && entry_at(image, k) > entry; k--) {
+        if (entry_at(image, k)[0] == 0) {
+            memcpy(entry_at(image, k), entry, ENTRY_BYTES);
+            memset(entry, 0, ENTRY_BYTES);
+            return;
+        }
+    }
+}
+
+int64_t __wrap_cinghjalofa_holders_new(uint8_t *image, size_t len)
+{
+    return __real_cinghjalofa_holders_new(image, len);
+}
+
+int64_t __wrap_cinghjalofa_holders_offer(uint8_t *image, size_t len, uint64_t start, uint64_t size)
+{
+    int64_t answer;
+    uint8_t *entry;
+
+    begin_holders(image, len, 0);
+    answer = __real_cinghjalofa_holders_offer(image, len, start, size);
+    if (is_breakage("holders-board-frees") && answer == -5 && (entry = exactly(image, 0, start, size)))
+        answer = __real_cinghjalofa_holders_free(image, len, entry[0], start, size);
+    return end_holders(image, len, answer);
+}
+
+int64_t __wrap_cinghjalofa_holders_allocate(uint8_t *image, size_t len, uint64_t holder, uint64_t size, uint64_t order)
+{
+    int64_t answer, taken;
+
+    holder = begin_holders(image, len, holder);
+    answer = __real_cinghjalofa_holders_allocate(image, len, holder, size, order);
+    if (is_breakage("holders-six-by-trying") && answer == -6) {
+        taken = __real_cinghjalofa_allocate(image + MEMORY_AT, IMAGE_BYTES, size, order);
+        __real_cinghjalofa_free(image + MEMORY_AT, IMAGE_BYTES, (uint64_t)taken, size);
+    }
+    if (is_breakage("holders-highest-entry") && answer >= 0)
+        move_entry(image, exactly(image, holder, (uint64_t)answer, size));
+    return end_holders(image, len, answer);
+}
+
+int64_t __wrap_cinghjalofa_holders_reserve_memory(uint8_t *image, size_t len, uint64_t holder, uint64_t start, uint64_t size, uint64_t order)
+{
+    const uint64_t low = order < 64 ? start >> order << order : 0;
+    const uint64_t high = order < 64 ? (start + size + ((uint64_t)1 << order) - 1) >> order << order : 0;
+    uint8_t *entry;
+    int64_t answer;
+
+    holder = begin_holders(image, len, holder);
+    answer = __real_cinghjalofa_holders_reserve_memory(image, len, holder, start, size, order);
+    entry = answer == 0 ? exactly(image, holder, low, high - low) : NULL;
+    if (is_breakage("holders-six-by-trying") && answer == -6) {
+        __real_cinghjalofa_reserve_memory(image + MEMORY_AT, IMAGE_BYTES, start, size, order);
+        __real_cinghjalofa_free(image + MEMORY_AT, IMAGE_BYTES, low, high - low);
+    }
+    if (is_breakage("holders-as-typed") && entry) {
+        put_number(entry + 1, start);
+        put_number(entry + 9, start + size - 1);
+    }
+    if (is_breakage("holders-highest-entry"))
+        move_entry(image, entry);
+    return end_holders(image, len, answer);
+}
+
+int64_t __wrap_cinghjalofa_holders_free(uint8_t *image, size_t len, uint64_t holder, uint64_t start, uint64_t size)
+{
+    int64_t answer;
+    uint8_t *entry;
+
+    holder = begin_holders(image, len, holder);
+    answer = __real_cinghjalofa_holders_free(image, len, holder, start, size);
+    if (is_breakage("holders-five-first") && answer == -4 && holder - 1 < CINGHJALOFA_HOLDERS && !exactly(image, holder, start, size))
+        answer = -5;
+    if (is_breakage("holders-anybody-frees") && answer == -5 && (entry = exactly(image, 0, start, size)))
+        answer = __real_cinghjalofa_holders_free(image, len, entry[0], start, size);
+    return end_holders(image, len, answer);
 }

@@ -5,7 +5,7 @@ use crate::MemoryError;
 // The declarations, behind safe functions over slices.
 #[allow(dead_code)]
 #[path = "library.rs"]
-mod library;
+pub(crate) mod library;
 
 pub(crate) use library::{audit, journal_begin, journal_read, journal_write};
 pub(crate) use library::{Own, RECORDS};

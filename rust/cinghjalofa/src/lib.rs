@@ -7,6 +7,10 @@ compile_error!("cinghjalofa: addresses have 64 bits");
 
 mod calls;
 mod error;
+mod held;
+mod holder_calls;
+mod holder_error;
+mod holders;
 pub mod journal;
 mod list;
 mod owned;
@@ -14,6 +18,9 @@ mod ranges;
 mod show;
 
 pub use error::{MemoryError, UnknownNumber};
+pub use held::{HeldRange, HeldRanges};
+pub use holder_error::HolderError;
+pub use holders::{is_sound_with_holders, HolderAllocator, LentHolderAllocator};
 pub use list::{Call, CallAnswer};
 pub use owned::{MemoryAllocator, UncheckedAllocator};
 pub use ranges::{FreeRange, FreeRanges};
@@ -25,6 +32,15 @@ pub const IMAGE_BYTES: usize = calls::IMAGE_BYTES;
 
 /// The free ranges that there can be: each has a record.
 pub const RECORDS: usize = calls::RECORDS;
+
+/// The length of an image with a register of holders, version 1 of its layout.
+pub const HOLDERS_IMAGE_BYTES: usize = holder_calls::HOLDERS_IMAGE_BYTES;
+
+/// Holders are 1 to this number.
+pub const HOLDERS: usize = holder_calls::HOLDERS as usize;
+
+/// The held ranges that there can be, of all holders together.
+pub const HELD_RANGES: usize = holder_calls::HELD_RANGES;
 
 /// The bytes of a page.
 pub const PAGE_BYTES: usize = calls::PAGE_BYTES as usize;

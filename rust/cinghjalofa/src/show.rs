@@ -2,7 +2,8 @@
 
 use core::fmt;
 
-use crate::{calls, Call, CallAnswer, FreeRanges, LentAllocator, MemoryAllocator, UncheckedAllocator};
+use crate::{calls, Call, CallAnswer, FreeRanges, HeldRanges, LentAllocator, MemoryAllocator, UncheckedAllocator};
+use crate::{HolderAllocator, LentHolderAllocator};
 
 impl fmt::Debug for MemoryAllocator {
     fn fmt(&self, f: &mut fmt::Formatter<'_>) -> fmt::Result {
@@ -22,8 +23,31 @@ impl fmt::Debug for LentAllocator<'_> {
     }
 }
 
+impl fmt::Debug for HolderAllocator {
+    fn fmt(&self, f: &mut fmt::Formatter<'_>) -> fmt::Result {
+        show_holders("HolderAllocator", self.total(), self.ranges(), self.held(), f)
+    }
+}
+
+impl fmt::Debug for LentHolderAllocator<'_> {
+    fn fmt(&self, f: &mut fmt::Formatter<'_>) -> fmt::Result {
+        show_holders("LentHolderAllocator", self.total(), self.ranges(), self.held(), f)
+    }
+}
+
 fn show(name: &str, total: usize, ranges: FreeRanges, f: &mut fmt::Formatter<'_>) -> fmt::Result {
     f.debug_struct(name).field("total", &format_args!("{:#x}", total)).field("ranges", &ranges).finish()
+}
+
+fn show_holders(
+    name: &str,
+    total: usize,
+    ranges: FreeRanges,
+    held: HeldRanges<'_>,
+    f: &mut fmt::Formatter<'_>,
+) -> fmt::Result {
+    let mut shown = f.debug_struct(name);
+    shown.field("total", &format_args!("{:#x}", total)).field("ranges", &ranges).field("held", &held).finish()
 }
 
 /// As it is written in Rust.

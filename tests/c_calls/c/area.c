@@ -92,30 +92,46 @@ static void check_unchanged(size_t from, size_t to, const char *what)
         fail(what);
 }
 
-int64_t lend(struct call call, size_t at, size_t len)
+void begin_call(const char *what)
 {
-    int64_t answer;
-
-    describe(call, at, len);
+    if (what != running)
+        snprintf(running, sizeof running, "%s", what);
     memcpy(before, area, AREA_BYTES);
     alarm(LONGEST_CALL_SECONDS);
-    answer = make(call, area + at, len);
+}
+
+void end_call(size_t at, size_t len, int64_t answer)
+{
     alarm(0);
     calls_made++;
     check_unchanged(0, at, "a byte before the slice was changed");
     check_unchanged(at + len, AREA_BYTES, "a byte behind the slice was changed");
     if (answer < 0)
         check_unchanged(at, at + len, "a refusal changed a byte of the slice");
-    return answer;
 }
 
-void expect(struct call call, size_t at, size_t len, int64_t wanted, const char *why)
+void judge_answer(int64_t answer, int64_t wanted, const char *why)
 {
     char text[160];
-    int64_t answer = lend(call, at, len);
 
     if (answer == wanted)
         return;
     snprintf(text, sizeof text, "answered %" PRId64 ", must be %" PRId64 " (%s)", answer, wanted, why);
     fail(text);
+}
+
+int64_t lend(struct call call, size_t at, size_t len)
+{
+    int64_t answer;
+
+    describe(call, at, len);
+    begin_call(running);
+    answer = make(call, area + at, len);
+    end_call(at, len, answer);
+    return answer;
+}
+
+void expect(struct call call, size_t at, size_t len, int64_t wanted, const char *why)
+{
+    judge_answer(lend(call, at, len), wanted, why);
 }

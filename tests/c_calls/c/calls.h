@@ -28,15 +28,21 @@ void put_image(const uint8_t *image, size_t at);
 int64_t lend(struct call call, size_t at, size_t len);
 void expect(struct call call, size_t at, size_t len, int64_t wanted, const char *why);
 
+/* The same, around a call that another part makes: what it is, and behind it the slice and the answer; and an answer held to the wanted one. */
+void begin_call(const char *what);
+void end_call(size_t at, size_t len, int64_t answer);
+void judge_answer(int64_t answer, int64_t wanted, const char *why);
+
 /* the report */
 extern unsigned long calls_made, failures;
 void fail(const char *what);
 
-/* contract.c, cases.c, lists.c, own.c, accounts.c: the tests */
+/* contract.c, cases.c, lists.c, own.c, accounts.c, holders.c: the tests */
 void test_contract(void);
 void test_cases(const char *path);
 void test_lists(void);
 void test_own(void);
 void test_accounts(void);
+void test_holders(const char *path);
 
 #endif

@@ -1,12 +1,12 @@
-/* The C calls from C: `calls CASES`. Exit status 0: all as it must be; 1: something was not; 2: it could not be tried. */
+/* The C calls from C: `calls CASES HOLDERS`. Exit status 0: all as it must be; 1: something was not; 2: it could not be tried. */
 #include "calls.h"
 
 #include <stdio.h>
 
 int main(int count, char **words)
 {
-    if (count != 2) {
-        fprintf(stderr, "usage: %s CASES\n", words[0]);
+    if (count != 3) {
+        fprintf(stderr, "usage: %s CASES HOLDERS\n", words[0]);
         return 2;
     }
     open_area();
@@ -15,6 +15,7 @@ int main(int count, char **words)
     test_lists();
     test_own();
     test_accounts();
+    test_holders(words[2]);
     printf("%lu calls, %lu failures\n", calls_made, failures);
     return failures ? 1 : 0;
 }

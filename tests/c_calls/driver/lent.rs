@@ -1,10 +1,11 @@
 //! A slice between guard bytes, lent to one call at a time through the safe functions of include/cinghjalofa.rs.
 
+use crate::holder_model;
 use crate::report::Report;
 use declared::by_path as cinghjalofa;
 use std::fmt;
 
-pub use cinghjalofa::{IMAGE_BYTES, MOST_PAGES};
+pub use cinghjalofa::{HOLDERS_IMAGE_BYTES, IMAGE_BYTES, MOST_PAGES};
 
 const GUARD: u8 = 0xc9;
 const GUARDS: usize = 64;
@@ -17,6 +18,8 @@ pub enum Call {
     Free { start: u64, size: u64 },
     AllocatePages { count: u64, order: u64 },
     FreePages { address: u64, count: u64 },
+    HoldersNew,
+    Holders(holder_model::Call),
 }
 
 impl fmt::Display for Call {
@@ -30,6 +33,8 @@ impl fmt::Display for Call {
             Call::Free { start, size } => write!(to, "free(start {start}, size {size})"),
             Call::AllocatePages { count, order } => write!(to, "allocate_pages(count {count}, order {order})"),
             Call::FreePages { address, count } => write!(to, "free_pages(address {address}, count {count})"),
+            Call::HoldersNew => write!(to, "holders_new"),
+            Call::Holders(call) => write!(to, "with holders, {call:?}"),
         }
     }
 }
@@ -88,5 +93,20 @@ fn make(slice: &mut [u8], call: Call) -> i64 {
         Call::Free { start, size } => cinghjalofa::free(slice, start, size),
         Call::AllocatePages { count, order } => cinghjalofa::allocate_pages(slice, count, order),
         Call::FreePages { address, count } => cinghjalofa::free_pages(slice, address, count),
+        Call::HoldersNew => cinghjalofa::holders_new(slice),
+        Call::Holders(call) => make_by_holders(slice, call),
+    }
+}
+
+fn make_by_holders(slice: &mut [u8], call: holder_model::Call) -> i64 {
+    match call {
+        holder_model::Call::Offer { start, size } => cinghjalofa::holders_offer(slice, start, size),
+        holder_model::Call::Allocate { holder, size, order } => {
+            cinghjalofa::holders_allocate(slice, holder, size, order)
+        }
+        holder_model::Call::Reserve { holder, start, size, order } => {
+            cinghjalofa::holders_reserve_memory(slice, holder, start, size, order)
+        }
+        holder_model::Call::Free { holder, start, size } => cinghjalofa::holders_free(slice, holder, start, size),
     }
 }

@@ -1,4 +1,4 @@
-//! The C calls from Rust: `driver contract CASES`, `driver damages`, `driver sweep` or `driver older`.
+//! The C calls from Rust: `driver contract CASES`, `driver damages`, `driver sweep`, `driver older` or `driver holders`.
 //! Exit status 0: all as it must be; 1: something was not; 2: it could not be tried.
 
 #[path = "../../cases.rs"]
@@ -6,6 +6,11 @@ mod cases;
 mod contract;
 mod damages;
 mod fields;
+#[path = "../../holder_model.rs"]
+mod holder_model;
+#[path = "../../holder_random.rs"]
+mod holder_random;
+mod holders;
 mod judge;
 mod lent;
 mod older;
@@ -26,7 +31,8 @@ fn main() -> ExitCode {
         ["damages"] => damages::run(&mut report),
         ["sweep"] => sweep::run(&mut report),
         ["older"] => older::run(&mut report),
-        _ => Err("usage: driver contract CASES | driver damages | driver sweep | driver older".to_string()),
+        ["holders"] => holders::run(&mut report),
+        _ => Err("usage: driver contract CASES | driver damages|sweep|older|holders".to_string()),
     };
     report.finish(ran)
 }

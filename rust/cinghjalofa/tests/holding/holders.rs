@@ -1,0 +1,1 @@
+../../../../tests/holders.rs
