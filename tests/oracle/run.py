@@ -6,6 +6,7 @@ usage: run.py [--archive FILE] MODE [OPTIONS]
   exhaustive [--addresses N] [--depth N] [--unit-order N]
                                                 every short history over few addresses, in units of 2^N bytes
   random [--calls N] [--seed N] [--history N]   random histories
+  holders [--calls N] [--seed N]                random histories of an allocator with holders
   play < CALLS                                  one history from standard input
   differences [--markdown yes]                  the table of differences, on both sides
   broken                                        ports broken on purpose must be noticed
@@ -36,7 +37,7 @@ from machine import Failed, machines
 STORED = HERE / "stored"
 TABLE = HERE / "differences.txt"
 CASES = HERE.parent / "cases.txt"
-LIVE_MODES = ("exhaustive", "random", "play", "differences", "broken")
+LIVE_MODES = ("exhaustive", "random", "holders", "play", "differences", "broken")
 OTHER_MODES = ("replay", "counterparts", "make-stored", "check-stored", "all")
 USUAL_BOUNDS = (
     ("replay", []),
@@ -46,12 +47,14 @@ USUAL_BOUNDS = (
     ("exhaustive", []),
     ("exhaustive", ["--unit-order", "12", "--depth", "3"]),
     ("random", []),
+    ("holders", []),
     ("broken", []),
 )
 EMULATED_BOUNDS = (
     ("replay", []),
     ("differences", []),
     ("random", ["--calls", "20000"]),
+    ("holders", ["--calls", "5000"]),
     ("broken", []),
 )
 NOT_RUN = """\

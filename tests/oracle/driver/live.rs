@@ -17,6 +17,7 @@ mod options;
 mod port;
 mod profile;
 mod random;
+mod register;
 mod rng;
 mod shape;
 mod shrink;
@@ -30,12 +31,13 @@ use broken::Breakage;
 use exhaustive::Exhaustive;
 use options::Options;
 use random::Random;
+use register::{Kept, Registers};
 use shrink::Mismatch;
 use tally::Tally;
 
 const USAGE: &str =
     "live: exhaustive [--addresses N] [--depth N] [--unit-order N] | random [--calls N] [--seed N] [--history N] \
-                     | play < CALLS | differences --table FILE [--markdown yes] | broken";
+                     | holders [--calls N] [--seed N] | play < CALLS | differences --table FILE [--markdown yes] | broken";
 
 fn main() -> ExitCode {
     judges::silence_assertions();
@@ -57,6 +59,7 @@ fn run(mode: &str, options: &Options) -> Result<bool, String> {
     let known: &[&str] = match mode {
         "exhaustive" => &["addresses", "depth", "unit-order"],
         "random" => &["calls", "seed", "history"],
+        "holders" => &["calls", "seed"],
         "differences" => &["table", "markdown"],
         _ => &[],
     };
@@ -64,6 +67,7 @@ fn run(mode: &str, options: &Options) -> Result<bool, String> {
     match mode {
         "exhaustive" => run_exhaustive(options),
         "random" => run_random(options),
+        "holders" => run_holders(options),
         "play" => play(),
         "differences" => check_differences(options),
         "broken" => Ok(catch_broken_ports()),
@@ -91,6 +95,21 @@ fn run_random(options: &Options) -> Result<bool, String> {
     let unreached =
         if enough_for_all { [tally.unreached_kinds(), tally.unreached_orders()].concat() } else { Vec::new() };
     Ok(conclude(outcome, &tally, unreached))
+}
+
+fn run_holders(options: &Options) -> Result<bool, String> {
+    let (calls, seed) = (options.number("calls", 50_000)?, options.number("seed", 1)?);
+    let (mut tally, mut kept) = (Tally::new(), Kept::default());
+    let outcome = Registers { seed, calls, breakage: None }.run(&mut tally, &mut kept);
+    tally.print();
+    kept.print();
+    if let Err(what) = outcome {
+        println!("MISMATCH: {what}");
+        return Ok(false);
+    }
+    let unreached = if calls >= 50_000 { kept.unreached() } else { Vec::new() };
+    unreached.iter().for_each(|what| println!("NEVER REACHED: {what}. The run says nothing about it"));
+    Ok(unreached.is_empty())
 }
 
 /// The calls on standard input, for a history that a mismatch has printed.
@@ -134,24 +153,23 @@ fn check_differences(options: &Options) -> Result<bool, String> {
     Ok(wrong == 0 && !table.is_empty())
 }
 
-/// Each port that is broken on purpose must be noticed, by the short histories and by the random ones.
+/// Each port that is broken on purpose must be noticed, by the short histories, by the random ones, and below a register.
 fn catch_broken_ports() -> bool {
     let mut all_caught = true;
     for (breakage, mistake) in Breakage::ALL {
         let breakage = Some(breakage);
         let short = Exhaustive { unit_order: 0, addresses: 8, depth: 3, breakage }.run(&mut Tally::new());
         let random = Random { seed: 1, calls: 200_000, history: 0, breakage }.run(&mut Tally::new());
-        for (search, outcome) in [("exhaustive", short), ("random", random)] {
-            match outcome {
-                Err(mismatch) => {
-                    println!("caught by {search}: {mistake}");
-                    mismatch.print();
-                }
-                Ok(()) => {
-                    println!("NOT CAUGHT by {search}: {mistake}. The comparison is blind to it");
-                    all_caught = false;
-                }
-            }
+        let below = Registers { seed: 1, calls: 50_000, breakage }.run(&mut Tally::new(), &mut Kept::default());
+        let print = |mismatch: Mismatch| mismatch.print();
+        for (search, is_caught) in [
+            ("exhaustive", short.map_err(print).is_err()),
+            ("random", random.map_err(print).is_err()),
+            ("holders", below.map_err(|what| println!("{}", what.lines().next().unwrap_or_default())).is_err()),
+        ] {
+            let said = if is_caught { "caught" } else { "NOT CAUGHT, the comparison is blind to it," };
+            println!("{said} by {search}: {mistake}");
+            all_caught &= is_caught;
         }
     }
     all_caught

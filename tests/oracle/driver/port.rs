@@ -27,20 +27,23 @@ impl Port {
 
     pub fn play(&mut self, call: Call) -> Answer {
         let image = self.image.as_mut_ptr();
-        let answer = unsafe {
+        answer_of(unsafe {
             match call {
                 Call::Free { start, size } => cinghjalofa_free(image, IMAGE, start, size),
                 Call::Allocate { size, order } => cinghjalofa_allocate(image, IMAGE, size, order),
                 Call::Reserve { start, size, order } => cinghjalofa_reserve_memory(image, IMAGE, start, size, order),
             }
-        };
-        match answer {
-            address @ 0.. => Answer::Accepted(address as u64),
-            refusal => Answer::Refused(u8::try_from(refusal.unsigned_abs()).unwrap_or(u8::MAX)),
-        }
+        })
     }
 
     pub fn shape(&self) -> Result<Shape, String> {
         image::read(&self.image)
+    }
+}
+
+pub fn answer_of(number: i64) -> Answer {
+    match number {
+        address @ 0.. => Answer::Accepted(address as u64),
+        refusal => Answer::Refused(u8::try_from(refusal.unsigned_abs()).unwrap_or(u8::MAX)),
     }
 }
