@@ -1,6 +1,6 @@
 /* Plays the script's example, crates/script/stdin, and a long list of calls, some of them over damaged images, and prints
  * what came of them; then the same calls on a state of one's own, checked and unchecked, beside the image, and how often one
- * of them differed. It needs no C library, so that the kit's own clang and linker make it for either kind of machine; the
+ * of them differed; and a list of calls with holders. It needs no C library, so that the kit's own clang and linker make it for either kind of machine; the
  * two must print the same. */
 
 typedef unsigned char uint8_t;
@@ -10,6 +10,7 @@ typedef unsigned long uint64_t;
 typedef long int64_t;
 
 enum { IMAGE = 6439, CALLS_IN_A_ROUND = 2000 };
+enum { ENTRIES = 64, ENTRY = 17, HOLDERS_IMAGE = 5 + ENTRIES * ENTRY + IMAGE };
 
 #ifndef ROUNDS
 #define ROUNDS 16
@@ -21,6 +22,11 @@ int64_t cinghjalofa_reserve_memory(uint8_t *image, size_t len, uint64_t start, u
 int64_t cinghjalofa_free(uint8_t *image, size_t len, uint64_t start, uint64_t size);
 int64_t cinghjalofa_allocate_pages(uint8_t *image, size_t len, uint64_t count, uint64_t order);
 int64_t cinghjalofa_free_pages(uint8_t *image, size_t len, uint64_t address, uint64_t count);
+int64_t cinghjalofa_holders_new(uint8_t *image, size_t len);
+int64_t cinghjalofa_holders_offer(uint8_t *image, size_t len, uint64_t start, uint64_t size);
+int64_t cinghjalofa_holders_allocate(uint8_t *image, size_t len, uint64_t holder, uint64_t size, uint64_t order);
+int64_t cinghjalofa_holders_reserve_memory(uint8_t *image, size_t len, uint64_t holder, uint64_t start, uint64_t size, uint64_t order);
+int64_t cinghjalofa_holders_free(uint8_t *image, size_t len, uint64_t holder, uint64_t start, uint64_t size);
 
 #define FIELDS uint64_t *, uint16_t *, uint16_t *, uint64_t *, uint64_t *, uint8_t *, uint16_t *, uint16_t *, uint16_t *, uint16_t *
 void cinghjalofa_fields_new(FIELDS);
@@ -151,6 +157,40 @@ static uint64_t play_round(uint8_t *image, int round, int64_t *accepted) {
     return digest;
 }
 
+static uint64_t number_at(const uint8_t *bytes) {
+    uint64_t number = 0;
+    for (int at = 0; at < 8; at++) number = number << 8 | bytes[at];
+    return number;
+}
+
+/* An offer, a take, or a free: of the entry that was drawn, where it is used. */
+static int64_t play_by(uint8_t *image, const struct call *call, uint64_t holder, const uint8_t *entry) {
+    if (call->kind == 'f') return cinghjalofa_holders_offer(image, HOLDERS_IMAGE, call->start, call->size);
+    if (call->kind == 'r') return cinghjalofa_holders_reserve_memory(image, HOLDERS_IMAGE, holder, call->start, call->size, call->order);
+    if (call->kind != 'q') return cinghjalofa_holders_allocate(image, HOLDERS_IMAGE, holder, call->size, call->order);
+    if (!entry[0]) return cinghjalofa_holders_free(image, HOLDERS_IMAGE, holder, call->start, call->size);
+    return cinghjalofa_holders_free(image, HOLDERS_IMAGE, entry[0], number_at(entry + 1), number_at(entry + 9) - number_at(entry + 1) + 1);
+}
+
+/* As play_round, with holders, 0 and 17 among them. */
+static uint64_t play_holders(uint8_t *image, int round, int64_t *accepted) {
+    uint64_t seed = (uint64_t)round, digest = 0xcbf29ce484222325;
+    cinghjalofa_holders_new(image, HOLDERS_IMAGE);
+    for (int at = 0; at < CALLS_IN_A_ROUND; at++) {
+        struct call call = random_call(&seed, round);
+        uint64_t holder = below(&seed, 18);
+        const uint8_t *entry = image + 5 + ENTRY * below(&seed, ENTRIES);
+        uint8_t *damaged = below(&seed, 20) ? 0 : image + below(&seed, HOLDERS_IMAGE);
+        uint8_t before = damaged ? *damaged : 0;
+        if (damaged) *damaged ^= (uint8_t)(1 + below(&seed, 255));
+        int64_t answer = play_by(image, &call, holder, entry);
+        *accepted += answer >= 0;
+        digest = mix(mix(digest, &answer, sizeof answer), image, HOLDERS_IMAGE);
+        if (damaged && answer == -2) *damaged = before;
+    }
+    return digest;
+}
+
 /* The words of a call on a state of one's own. */
 static void in_words(uint64_t *words, const struct call *call) {
     words[0] = call->kind == 'f' ? 1 : call->kind == 'a' ? 2 : call->kind == 'r' ? 3 : call->kind == 'p' ? 4 : 5;
@@ -191,7 +231,7 @@ static int64_t play_owned(uint8_t *image, int round) {
 }
 
 void run_all(void) {
-    static uint8_t image[IMAGE + 1];
+    static uint8_t image[HOLDERS_IMAGE + 1];
     int64_t accepted = 0, differing = 0;
     print_line("new over a longer slice", cinghjalofa_new(image, IMAGE + 1));
     print_line("new", cinghjalofa_new(image, IMAGE));
@@ -199,6 +239,8 @@ void run_all(void) {
     for (int round = 0; round < ROUNDS; round++) print_line("digest", (int64_t)play_round(image, round, &accepted));
     for (int round = 0; round < ROUNDS; round++) differing += play_owned(image, round);
     print_line("differing on a state of one's own", differing);
+    print_line("new with holders over a longer slice", cinghjalofa_holders_new(image, HOLDERS_IMAGE + 1));
+    for (int round = 0; round < ROUNDS; round++) print_line("digest with holders", (int64_t)play_holders(image, round, &accepted));
     print_line("accepted", accepted);
     system_call(EXIT, 0, 0, 0);
 }
