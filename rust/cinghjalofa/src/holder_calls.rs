@@ -16,7 +16,7 @@ pub(crate) type Image = [u8; HOLDERS_IMAGE_BYTES];
 const VERSION: u8 = 1;
 const MEMORY_VERSION: u8 = if RECORDS_AT == 39 { 2 } else { 3 };
 /// Where the allocator's image begins in it.
-const MEMORY_AT: usize = HOLDERS_IMAGE_BYTES - IMAGE_BYTES;
+const MEMORY_AT: usize = library::HOLDERS_MEMORY;
 /// In the allocator's image: the links behind the total, the records, and in each the links.
 const LINKS_AT: usize = 13;
 const RECORDS_AT: usize = IMAGE_BYTES - RECORDS * RECORD_BYTES;

@@ -32,7 +32,7 @@ impl HolderError {
     /// assert_eq!(HolderError::from(MemoryError::NoMemory).number(), MemoryError::NoMemory.number());
     /// assert_eq!(HolderError::try_from(6), Ok(HolderError::RegisterFull));
     /// assert_eq!(HolderError::try_from(7), Err(UnknownNumber(7)));
-    /// assert_eq!(HolderError::RegisterFull.to_string(), "as many ranges are held as there can be");
+    /// assert_eq!(HolderError::RegisterFull.to_string(), "all entries of the register are used");
     /// ```
     pub const fn number(self) -> u8 {
         match self {
@@ -85,10 +85,8 @@ impl fmt::Display for HolderError {
             HolderError::InvalidEntry => MemoryError::InvalidEntry.fmt(f),
             HolderError::NoMemory => MemoryError::NoMemory.fmt(f),
             HolderError::InvalidRequest => MemoryError::InvalidRequest.fmt(f),
-            HolderError::NotYours => {
-                f.write_str("not exactly a range handed to this holder, or an offer of held bytes")
-            }
-            HolderError::RegisterFull => f.write_str("as many ranges are held as there can be"),
+            HolderError::NotYours => f.write_str("not exactly a range handed to this holder, or bytes that are held"),
+            HolderError::RegisterFull => f.write_str("all entries of the register are used"),
         }
     }
 }

@@ -142,7 +142,7 @@ static void words(void)
 {
     int64_t refusal;
 
-    for (refusal = CINGHJALOFA_INVALID_REQUEST; refusal < 0; refusal++)
+    for (refusal = CINGHJALOFA_REGISTER_FULL; refusal < 0; refusal++)
         judge(strcmp(cinghjalofa_text(refusal), cinghjalofa_text(refusal + 1)) != 0, "two answers of the same words", "cinghjalofa_text");
     judge(strcmp(cinghjalofa_text(CINGHJALOFA_NO_MEMORY), "too few bytes are free, or no free range fits") == 0, "the words of -3", "cinghjalofa_text");
     judge(strcmp(cinghjalofa_text(0), cinghjalofa_text(INT64_MAX)) == 0, "the words of an address", "cinghjalofa_text");
