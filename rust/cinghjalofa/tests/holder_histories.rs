@@ -5,7 +5,8 @@ mod holding;
 
 use std::collections::BTreeMap;
 
-use holding::holder_model::{entries_of, written, Call, Model, ENTRIES, RECORDS};
+use holding::holder_image::{entries_of, written};
+use holding::holder_model::{Call, Model, ENTRIES, RECORDS};
 use holding::holder_random::Generator;
 use holding::{held, Both};
 

@@ -6,7 +6,8 @@ use cinghjalofa::{
     is_sound, is_sound_with_holders, HolderAllocator, HolderError, LentHolderAllocator, MemoryAllocator,
 };
 use cinghjalofa::{HOLDERS_IMAGE_BYTES, IMAGE_BYTES};
-use holding::holder_model::{entries_of, is_sound_register, put_entry, Held, ENTRIES, MEMORY_AT, TOP};
+use holding::holder_image::{entries_of, is_sound_register, put_entry, MEMORY_AT};
+use holding::holder_model::{Held, ENTRIES, TOP};
 use holding::Both;
 
 type Image = [u8; HOLDERS_IMAGE_BYTES];

@@ -4,7 +4,8 @@ mod holding;
 
 use cinghjalofa::{is_sound_with_holders, HELD_RANGES, HOLDERS, HOLDERS_IMAGE_BYTES, RECORDS};
 use cinghjalofa::{HeldRange, HolderAllocator, HolderError, LentHolderAllocator, MemoryError, UnknownNumber};
-use holding::holder_model::{self as model, entries_of, written, Call, Held, Model};
+use holding::holder_image::{entries_of, written, MEMORY_AT};
+use holding::holder_model::{self as model, Call, Held, Model};
 use holding::holders::{self as table, Case, Line};
 use holding::{cases, held, Both};
 
@@ -61,7 +62,7 @@ fn the_model_answers_as_the_cases_do() {
 #[test]
 fn the_model_is_of_as_many_records_entries_and_holders() {
     assert_eq!((RECORDS, HELD_RANGES, HOLDERS as u64), (model::RECORDS, model::ENTRIES, model::HOLDERS));
-    assert_eq!(HOLDERS_IMAGE_BYTES - cinghjalofa::IMAGE_BYTES, model::MEMORY_AT);
+    assert_eq!(HOLDERS_IMAGE_BYTES - cinghjalofa::IMAGE_BYTES, MEMORY_AT);
 }
 
 /// All entries are used, one byte each, by holder 1; byte 64 is free.
@@ -212,7 +213,7 @@ fn errors_are_errors() {
 fn a_stray_write_is_noticed() {
     let both = Both::with(&[('o', &[0, 0x100]), ('a', &[1, 8, 0])]);
     let sound = *both.own.image();
-    for at in [0, 4, 5, 13, 21, 22, model::MEMORY_AT, HOLDERS_IMAGE_BYTES - 1] {
+    for at in [0, 4, 5, 13, 21, 22, MEMORY_AT, HOLDERS_IMAGE_BYTES - 1] {
         let mut memory = HolderAllocator::from_image(&sound).unwrap();
         // SAFETY: the byte lies in the allocator, which is its image and nothing else.
         unsafe { *core::ptr::addr_of_mut!(memory).cast::<u8>().add(at) ^= 0x80 };

@@ -2,8 +2,8 @@
 //! change of an image with much in its register, which must be refused exactly where the judge finds it unsound.
 
 use crate::fields::Fields;
-use crate::holder_model::{self as model, entries_of, is_sound_register, written, Held, Model};
-use crate::holder_model::{ENTRIES, MEMORY_AT, RECORDS, TOP};
+use crate::holder_image::{entries_of, is_sound_register, written, MEMORY_AT};
+use crate::holder_model::{self as model, Held, Model, ENTRIES, RECORDS, TOP};
 use crate::holder_random::{Generator, KINDS};
 use crate::judge;
 use crate::lent::{Call, Lent, HOLDERS_IMAGE_BYTES};

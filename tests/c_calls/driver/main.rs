@@ -6,6 +6,8 @@ mod cases;
 mod contract;
 mod damages;
 mod fields;
+#[path = "../../holder_image.rs"]
+mod holder_image;
 #[path = "../../holder_model.rs"]
 mod holder_model;
 #[path = "../../holder_random.rs"]

@@ -151,33 +151,42 @@ impl Registers {
             let by = draw(&register, call, &mut rng);
             let before = register.clone();
             let answer = register.play(call, by);
+            made.push(shown(call, by, answer));
             unplayed += 1;
             if kept.keeps(by, answer)? {
-                made.push(shown(call, by, answer));
                 same_bytes(&before, &register)?;
-                continue;
-            }
-            match bench.play(call) {
-                Ok(ruling) => {
-                    made.push(shown(call, by, answer));
-                    self.spoil(&before, call, answer, &mut register);
-                    follows(&before, &register, answer, &ruling)?;
-                    generator.accepted(call, answer);
-                    tally.count(call, ruling.kind, ruling.with_untouched);
-                    (played, unplayed) = (played + 1, 0);
-                }
-                Err(NoRuling::Outside(why)) => {
-                    self.spoil(&before, call, answer, &mut register);
-                    if let Outside::TakesTheLastBytes { .. } = why {
-                        made.push(shown(call, by, answer));
-                        empties(&register, answer)?;
-                    }
-                    register = before; // the history goes on without it
-                }
-                Err(NoRuling::Quarrel(text)) => return Err(format!("the judges differ at {text}")),
+            } else if let Some(ruling) = self.judge(&mut bench, call, answer, &before, &mut register)? {
+                generator.accepted(call, answer);
+                tally.count(call, ruling.kind, ruling.with_untouched);
+                (played, unplayed) = (played + 1, 0);
+            } else {
+                made.pop();
+                register = before; // it leaves the domain: the history goes on without it
             }
         }
         Ok(())
+    }
+
+    /// The ruling that the call was held to; none outside the domain, where a take of the last bytes is looked at all the same.
+    fn judge(
+        &self,
+        bench: &mut Bench,
+        call: Call,
+        answer: Answer,
+        before: &Register,
+        register: &mut Register,
+    ) -> Result<Option<Ruling>, String> {
+        let ruling = bench.play(call);
+        self.spoil(before, call, answer, register);
+        match ruling {
+            Ok(ruling) => {
+                follows(before, register, answer, &ruling)?;
+                Ok(Some(ruling))
+            }
+            Err(NoRuling::Outside(Outside::TakesTheLastBytes { .. })) => empties(register, answer).map(|()| None),
+            Err(NoRuling::Outside(_)) => Ok(None),
+            Err(NoRuling::Quarrel(text)) => Err(format!("the judges differ at {text}")),
+        }
     }
 
     fn spoil(&self, before: &Register, call: Call, answer: Answer, register: &mut Register) {

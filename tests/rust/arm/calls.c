@@ -240,7 +240,7 @@ void run_all(void) {
     for (int round = 0; round < ROUNDS; round++) differing += play_owned(image, round);
     print_line("differing on a state of one's own", differing);
     print_line("new with holders over a longer slice", cinghjalofa_holders_new(image, HOLDERS_IMAGE + 1));
-    for (int round = 0; round < ROUNDS; round++) print_line("digest with holders", (int64_t)play_holders(image, round, &accepted));
+    for (int round = 0; round < (ROUNDS + 3) / 4; round++) print_line("digest with holders", (int64_t)play_holders(image, round, &accepted));
     print_line("accepted", accepted);
     system_call(EXIT, 0, 0, 0);
 }

@@ -2,6 +2,7 @@
 
 #![allow(dead_code)] // each uses a part
 
+pub mod holder_image;
 pub mod holder_model;
 pub mod holder_random;
 pub mod holders;

@@ -1,0 +1,1 @@
+../../../../tests/holder_image.rs
