@@ -171,14 +171,16 @@ fn entries_may_stand_anywhere() {
     assert!(one.image() != other.image() && one.held().eq(other.held()) && one.held().len() == 5);
 }
 
-/// What is damaged is told before what is asked wrongly.
 #[test]
-fn damage_comes_before_a_bad_request() {
-    let mut image = rich();
-    image[5] = 0; // entry 0 is nobody's, and has figures
-    let damaged = image;
-    assert_eq!(LentHolderAllocator::from_image(&mut image).err(), Some(HolderError::InvalidEntry));
-    assert!(image == damaged);
+fn a_damaged_image_is_refused_and_kept() {
+    for at in [0, 4, 5, 6, 14, MEMORY_AT, MEMORY_AT + 12, HOLDERS_IMAGE_BYTES - 1] {
+        let mut image = rich();
+        image[at] ^= 0x80;
+        let damaged = image;
+        assert_eq!(LentHolderAllocator::from_image(&mut image).err(), Some(HolderError::InvalidEntry), "byte {at}");
+        assert_eq!(HolderAllocator::from_image(&image).err(), Some(HolderError::InvalidEntry), "byte {at}");
+        assert!(image == damaged, "the refusal changed bytes where byte {at} is damaged");
+    }
 }
 
 #[test]
