@@ -88,7 +88,10 @@ pub extern "C" fn cinghjalofa_holders_reserve_memory(
 {
     serve_over(
         image,
-        HolderRequest::By(Holder(holder), Request::Reserve(Address(start), size, order)),
+        HolderRequest::By(
+            Holder(holder),
+            Request::Reserve(Address(start), size, order),
+        ),
     )
 }
 
