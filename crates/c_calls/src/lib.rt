@@ -1,5 +1,6 @@
 // The calls as C has them: over a lent image, with one signed number as the answer.
 use calls::INVALID_ENTRY;
+use account_state::NEVER;
 use image::ImageAnswer;
 use image_calls::list_over;
 use image_parts::layout::IMAGE;
@@ -41,6 +42,7 @@ pub extern "C" fn cinghjalofa_new(image: &mut [u8]) -> i64
     write_fields(
         image,
         true,
+        NEVER,
         0,
         RecordIndex(NONE),
         &heads,
