@@ -1,6 +1,6 @@
 // The calls as C has them: over a lent image, with one signed number as the answer.
-use calls::INVALID_ENTRY;
 use account_state::NEVER;
+use calls::INVALID_ENTRY;
 use image::ImageAnswer;
 use image_calls::list_over;
 use image_parts::layout::IMAGE;

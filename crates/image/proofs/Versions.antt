@@ -122,11 +122,10 @@ pub record Unwritten (l : List ℕ) : Type 0 where
 -- refused is exactly that
 pub refused-any : (l : List ℕ) → Bytes l → (readingAny l .number ≡ numberOf InvalidEntry) ↔ Unwritten l
 unfolding readingAny
-refused-any l bytes =
-    (
-      λ e. record { first = no version1 (housed-of 1) refl e; second = no version2 (housed-of 2) refl e; now = no current (housed-of 3) refl e },
-      λ h. refused-exactly (layoutIn l) (housed-of (numberIn l 0 lengthAt) .lawful) l bytes .1 (pick (eqb (numberIn l 0 lengthAt) (version1 .version)) (eqb (numberIn l 0 lengthAt) (version2 .version)) h),
-    )
+refused-any l bytes = (
+  λ e. record { first = no version1 (housed-of 1) refl e; second = no version2 (housed-of 2) refl e; now = no current (housed-of 3) refl e },
+  λ h. refused-exactly (layoutIn l) (housed-of (numberIn l 0 lengthAt) .lawful) l bytes .1 (pick (eqb (numberIn l 0 lengthAt) (version1 .version)) (eqb (numberIn l 0 lengthAt) (version2 .version)) h),
+)
   where
     no : (f : Layout) → Housed f → layoutOf (f .version) ≡ f → readingOf (layoutIn l) l .number ≡ numberOf InvalidEntry → Image f l → ⊥
     no f housed same e i =

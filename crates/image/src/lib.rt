@@ -5,8 +5,8 @@ mod read;
 mod write;
 
 pub use read::read_image;
-pub use write::write_image;
 pub use write::write_account;
+pub use write::write_image;
 
 pub enum ImageAnswer {
     Done,
