@@ -13,7 +13,7 @@ use Rattle.rules.specs.Rules as rules
 use Rattle.rules.specs.Rules.{top, Free, Allocate, Reserve}
 use Rattle.rules_laws.proofs.Lists.{and-l, and-r, T-true}
 use Rattle.rules_engine.specs.Engine.{Engine}
-use Rattle.image_parts.specs.Layout.{Layout, Lawful, lengthSize, imageSize}
+use Rattle.image_parts.specs.Layout.{Layout, Figured, lengthSize, imageSize}
 use Rattle.image_parts.proofs.Loops as loops
 use Rattle.image_reading.specs.Reading.{framed, readable}
 use Rattle.image.specs.Writing.{Image}
@@ -86,17 +86,17 @@ read-length f m e = eqb-true (length m) (imageSize f) (loops.both (eqb (length m
     go true d e = d
     go false d e = absurd (let n : readingOf f m .number ≡ 2 = rw d in let v : ⊥ = omega arith in v)
 
-module _ (f : Layout) (lawful : Lawful f) (small : restOf f < 256 ^ lengthSize) (l : List ℕ) (sized : length l ≡ imageSize f) where
+module _ (f : Layout) (full : Figured f) (small : restOf f < 256 ^ lengthSize) (l : List ℕ) (sized : length l ≡ imageSize f) where
   abbrev e : Engine
   e = images f l
 
   -- one call, on the image of a sound holding
-  module _ (k : Holding (List ℕ)) (κ : Kept (obeys f lawful l sized) k) (len : length (k .register) ≡ entries) where
+  module _ (k : Holding (List ℕ)) (κ : Kept (obeys f full l sized) k) (len : length (k .register) ≡ entries) where
     image : Image f (k .memory)
-    image = obeys f lawful l sized .sound (κ .book) (k .memory) (κ .good) (κ .of)
+    image = obeys f full l sized .sound (κ .book) (k .memory) (κ .good) (κ .of)
 
     reads : readingOf f (k .memory) .number ≡ 0
-    reads = image-accepted f lawful (k .memory) image
+    reads = image-accepted f (full .lawful) (k .memory) image
 
     fits : (i : ℕ) → i < entries → Fits (getD (k .register) i blank)
     fits i b = sound-fits (k .register) (κ .register .sound) i (omega arith)
@@ -108,7 +108,7 @@ module _ (f : Layout) (lawful : Lawful f) (small : restOf f < 256 ^ lengthSize) 
     unfolding soundIn
     is-sound =
         let s = T-true (registerSound (κ .book .chain) (k .register)) (sound← (κ .book .chain) (k .register) (κ .register)) in
-        let c = obeys f lawful l sized .shows (κ .book) (k .memory) (κ .good) (κ .of) in
+        let c = obeys f full l sized .shows (κ .book) (k .memory) (κ .good) (κ .of) in
         rw (eq-eqb (readingOf f (k .memory) .number) 0 reads, c) s
 
     serves-it : (headed f (bytesOf f k) ≡ true) × (soundIn f (memoryIn (bytesOf f k)) (registerIn (bytesOf f k)) ≡ true)
@@ -122,7 +122,7 @@ module _ (f : Layout) (lawful : Lawful f) (small : restOf f < 256 ^ lengthSize) 
     called c = rw (serves-it .0, serves-it .1) (ap (λ (h : Holding (List ℕ)). finished f (step (images f []) c h) (bytesOf f k)) back ∙ ap (λ (w : Answer (List ℕ)). finished f w (bytesOf f k)) (same-step f [] l c k))
 
     -- what it returns is its number and address, and it leaves the image of what it left
-    returns : (c : Call) (w : Answer (List ℕ)) → Comes (obeys f lawful l sized) k (κ .book) c w
+    returns : (c : Call) (w : Answer (List ℕ)) → Comes (obeys f full l sized) k (κ .book) c w
         → (voucherFrom c (finished f w (bytesOf f k) .number) ≡ voucher c w) × (finished f w (bytesOf f k) .bytes ≡ bytesOf f (w .holding)) × (length (w .holding .register) ≡ entries)
     unfolding finished
     returns c _ (refusal _ zero d) = absurd (d refl)
@@ -133,32 +133,32 @@ module _ (f : Layout) (lawful : Lawful f) (small : restOf f < 256 ^ lengthSize) 
 
     told : (c : Call) → (voucherFrom c (callOver f c (bytesOf f k) .number) ≡ voucher c (step e c k)) × (callOver f c (bytesOf f k) .bytes ≡ bytesOf f (step e c k .holding)) × (length (step e c k .holding .register) ≡ entries)
     told c =
-        let r = returns c (step e c k) (comes (obeys f lawful l sized) k κ c) in
+        let r = returns c (step e c k) (comes (obeys f full l sized) k κ c) in
         (ap (λ (x : Returned). voucherFrom c (x .number)) (called c) ∙ r .0, ap (λ (x : Returned). x .bytes) (called c) ∙ r .1, r .2)
 
-  left-is : (k : Holding (List ℕ)) → Kept (obeys f lawful l sized) k → length (k .register) ≡ entries → (cs : List Call) → after f (bytesOf f k) cs ≡ bytesOf f (run e k cs)
+  left-is : (k : Holding (List ℕ)) → Kept (obeys f full l sized) k → length (k .register) ≡ entries → (cs : List Call) → after f (bytesOf f k) cs ≡ bytesOf f (run e k cs)
   unfolding after run
   left-is k κ n [] = refl
-  left-is k κ n (c ∷ cs) = let t = told k κ n c in ap (λ (x : List ℕ). after f x cs) (t .1) ∙ left-is (step e c k .holding) (step-keeps (obeys f lawful l sized) c k κ) (t .2) cs
+  left-is k κ n (c ∷ cs) = let t = told k κ n c in ap (λ (x : List ℕ). after f x cs) (t .1) ∙ left-is (step e c k .holding) (step-keeps (obeys f full l sized) c k κ) (t .2) cs
 
-  kept-is : (k : Holding (List ℕ)) → Kept (obeys f lawful l sized) k → length (k .register) ≡ entries → (cs : List Call) → vouchers f (bytesOf f k) cs ≡ trail e k cs
+  kept-is : (k : Holding (List ℕ)) → Kept (obeys f full l sized) k → length (k .register) ≡ entries → (cs : List Call) → vouchers f (bytesOf f k) cs ≡ trail e k cs
   unfolding vouchers trail
   kept-is k κ n [] = refl
   kept-is k κ n (c ∷ cs) =
       let t = told k κ n c in
       let first = t .0 in
-      let others = ap (λ (x : List ℕ). vouchers f x cs) (t .1) ∙ kept-is (step e c k .holding) (step-keeps (obeys f lawful l sized) c k κ) (t .2) cs in
+      let others = ap (λ (x : List ℕ). vouchers f x cs) (t .1) ∙ kept-is (step e c k .holding) (step-keeps (obeys f full l sized) c k κ) (t .2) cs in
       (λ i. first i ∷ others i)
 
 -- Demands 2 and 3 of the C calls, from what the call that begins an image leaves of any bytes of its length.
-pub at-door : (f : Layout) (lawful : Lawful f) → restOf f < 256 ^ lengthSize → (l : List ℕ) → length l ≡ wholeSize f → AtDoor f l
+pub at-door : (f : Layout) (full : Figured f) → restOf f < 256 ^ lengthSize → (l : List ℕ) → length l ≡ wholeSize f → AtDoor f l
 unfolding newOver
-at-door f lawful small l h =
+at-door f full small l h =
     let sized : length (memoryIn l) ≡ imageSize f = length-drop memoryAt l ∙ omega arith in
-    let o = obeys f lawful (memoryIn l) sized in
+    let o = obeys f full (memoryIn l) sized in
     let new : newOver f l .bytes ≡ bytesOf f (nothing (images f (memoryIn l)) entries) = rw (eq-eqb (length l) (wholeSize f) h) in
     record {
-      left = λ cs. ap (λ (x : List ℕ). after f x cs) new ∙ left-is f lawful small (memoryIn l) sized (nothing (images f (memoryIn l)) entries) (laws.nothing-kept o entries) (length-blanks entries) cs;
-      kept = λ cs. ap (λ (x : List ℕ). vouchers f x cs) new ∙ kept-is f lawful small (memoryIn l) sized (nothing (images f (memoryIn l)) entries) (laws.nothing-kept o entries) (length-blanks entries) cs;
+      left = λ cs. ap (λ (x : List ℕ). after f x cs) new ∙ left-is f full small (memoryIn l) sized (nothing (images f (memoryIn l)) entries) (laws.nothing-kept o entries) (length-blanks entries) cs;
+      kept = λ cs. ap (λ (x : List ℕ). vouchers f x cs) new ∙ kept-is f full small (memoryIn l) sized (nothing (images f (memoryIn l)) entries) (laws.nothing-kept o entries) (length-blanks entries) cs;
       demand = laws.demand o entries;
     }

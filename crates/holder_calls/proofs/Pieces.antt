@@ -18,9 +18,11 @@ use Rattle.linked_lists.proofs.Laws.{true≢false}
 use Rattle.bytes_be.specs.Numbers.{Bytes}
 use Rattle.calls.specs.Calls.{numberOf, addressOf, signedOf, voucherOf, voucherFrom, addressFrom, numberFrom}
 use Rattle.calls.proofs.Numbers.{signed-voucher}
-use Rattle.core_serve.specs.Made.{made}
+use Rattle.core_serve.specs.Made as ranges
+use Rattle.account_calls.proofs.Refusals.{ranges-answer}
+use Rattle.account_state.proofs.Exact.{sound-passes as account-passes}
 use Rattle.check_meaning.proofs.Exact.{sound-sized, sound-passes}
-use Rattle.image_parts.specs.Layout.{Layout, Lawful}
+use Rattle.image_parts.specs.Layout.{Layout, Figured}
 use Rattle.image_parts.proofs.Lawful.{small-pool}
 use Rattle.image.specs.Reading.{readingOf}
 use Rattle.image.proofs.Rounds.{accepted-image}
@@ -45,17 +47,20 @@ not-below (negsuc j) e = true≢false e
 pub part-bytes : (l : List ℕ) → Bytes l → Bytes (memoryIn l)
 part-bytes l h i b = let d = length-drop memoryAt l in rw (getD-drop memoryAt l i 0) (h (memoryAt + i) (omega arith))
 
-module _ (f : Layout) (lawful : Lawful f) (m : List ℕ) (bytes : Bytes m) (r : List Entry) (s : soundIn f m r ≡ true) where
+module _ (f : Layout) (full : Figured f) (m : List ℕ) (bytes : Bytes m) (r : List Entry) (s : soundIn f m r ≡ true) where
   pub call-moves : (c : rules.Call) → T (not (frees c)) → (i : ℤ) (m′ : List ℕ) → returned i m′ ≡ callOver f c m → ltZ i (pos 0) ≡ false → Moves c (addressFrom i)
   unfolding soundIn
   call-moves c t i m′ e n =
       let read = eqb-true (readingOf f m .number) 0 (first (eqb (readingOf f m .number) 0) _ s) in
-      let image = accepted-image f lawful m bytes read in
-      let small = small-pool f lawful in
-      let same : voucherFrom c i ≡ voucherOf c (made (f .records) (image .state) c .answer) =
-      ap (λ (x : Returned). voucherFrom c (x .number)) e ∙ ap (λ (x : List ℕ). voucherFrom c (callOver f c x .number)) (sym (image .bytes)) ∙ call-voucher f lawful (image .state) (image .sound) c in
+      let image = accepted-image f (full .lawful) m bytes read in
+      let small = small-pool f (full .lawful) in
+      let a = image .state in
+      let answer = ranges-answer (f .records) a (rules.step (f .records) c) (account-passes (f .records) small a (image .sound)) in
+      let same : voucherFrom c i ≡ voucherOf c (ranges.made (f .records) (a .ranges) c .answer) =
+            ap (λ (x : Returned). voucherFrom c (x .number)) e ∙ ap (λ (x : List ℕ). voucherFrom c (callOver f c x .number)) (sym (image .bytes)) ∙ call-voucher f full a (image .sound) c
+            ∙ ap (voucherOf c) answer in
       subst (Moves c) (ap (λ (v : rules.Voucher). v .address) (sym same))
-      (accepted-moves (f .records) small (image .state) (sound-sized (f .records) small (image .state) (image .sound)) (sound-passes (f .records) small (image .state) (image .sound)) c t
+      (accepted-moves (f .records) small (a .ranges) (sound-sized (f .records) small (a .ranges) (image .sound .ranges)) (sound-passes (f .records) small (a .ranges) (image .sound .ranges)) c t
       (ap (λ (v : rules.Voucher). v .number) (sym same) ∙ not-below i n))
 
 -- ---- the address of an accepted call, as a number of 64 bits

@@ -8,7 +8,7 @@ use Rattle.c_calls.specs.CCalls.{returned, callOver}
 use Rattle.holder_image.specs.Bytes.{memoryIn}
 use Prim.Native.Nat.{ℕ}
 use native.Mathlib.Omega.{arith}
-use Rattle.image_parts.proofs.Lawful.{lawful-current}
+use Rattle.image_parts.proofs.Lawful.{figured-current}
 use Rattle.calls.specs.Calls.{callOf}
 use Rattle.holder_rules.specs.Register.{enter}
 use Rattle.holder_rules.specs.Holders.{piece}
@@ -82,7 +82,7 @@ piece-of-requires : tie.Need-piece-of-requires
 piece-of-requires c κs =
     let t = c .before .before .before .before in let k = t .before .before in let s = k .before .before .before .before .before .before .before in let x = s .args in
     subst (Moves (callOf (x .request))) (sym (not-negative (answered k) (t .if1 .left)))
-    (call-moves current lawful-current (memoryIn (x .image .now)) (part-bytes (x .image .now) (λ i b. k .before .before .before .before .before .before .slice-known .given i .fits)) (x .register .entries) (s .pre .0 .sound) (callOf (x .request)) (s .pre .1) (answered k) _ (called k) (t .if1 .left))
+    (call-moves current figured-current (memoryIn (x .image .now)) (part-bytes (x .image .now) (λ i b. k .before .before .before .before .before .before .slice-known .given i .fits)) (x .register .entries) (s .pre .0 .sound) (callOf (x .request)) (s .pre .1) (answered k) _ (called k) (t .if1 .left))
 
 with-entry-requires : tie.Need-with-entry-requires
 with-entry-requires c κs =
