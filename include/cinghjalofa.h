@@ -28,7 +28,8 @@
  *   no sound allocator writes (damaged, or of another version, an older one too) is refused with -2 before a bad request is with -4.
  *
  * Addresses run from 0 to 2^63-1 and sizes count bytes. An alignment order n, 0 to 63, means a multiple of 2^n. There
- * are 256 records, one for each free range. The total is the number of free bytes. Sums are mathematical, never wrapped.
+ * are 256 records, one for each free range. The total is the number of free bytes, and the lowest figure the least total after any accepted call
+ * since the first accepted free. Sums are mathematical, never wrapped.
  */
 #ifndef CINGHJALOFA_H
 #define CINGHJALOFA_H
@@ -52,8 +53,12 @@ __extension__ typedef _Bool cinghjalofa_bool;
 typedef unsigned char cinghjalofa_bool;
 #endif
 
-/* The length of an image, version 2 of its layout; any other `len` is refused. Version 1 had 1370 bytes: cinghjalofa_upgrade reads it. */
-#define CINGHJALOFA_IMAGE_BYTES 6439
+/* The length of an image, version 3 of its layout; any other `len` is refused. Version 1 had 1370 bytes and version 2 had 6439: cinghjalofa_upgrade reads
+ * them. */
+#define CINGHJALOFA_IMAGE_BYTES 6447
+
+/* The lowest figure before the first accepted free. */
+#define CINGHJALOFA_NEVER (~(uint64_t)0)
 
 /* The bytes of a page, and how many pages the addresses have. */
 #define CINGHJALOFA_PAGE_BYTES 4096
@@ -100,9 +105,10 @@ int64_t cinghjalofa_new(uint8_t *image, size_t len);
 
 /*
  * Writes the current image of the state whose image `old` is, of any version: the same free ranges in the same records and the
- * same orders, the other records unused. An image of the current version comes out as it went in. Answers 0. `old` points to
+ * same orders, the other records unused. An older image has no lowest figure: it becomes the total. An image of the current version comes out as it went in. Answers 0. `old` points to
  * `old_len` bytes that may be read, and the two slices do not overlap.
- *   -2  len is not CINGHJALOFA_IMAGE_BYTES, or old is no image of a sound allocator, of 64 records in 1370 bytes (version 1) or of now
+ *   -2  len is not CINGHJALOFA_IMAGE_BYTES, or old is no image of a sound allocator, of 64 records in 1370 bytes (version 1), of 256
+ *       in 6439 (version 2), or of now
  */
 int64_t cinghjalofa_upgrade(const uint8_t *old, size_t old_len, uint8_t *image, size_t len);
 
@@ -195,6 +201,13 @@ int64_t cinghjalofa_batch(uint8_t *image, size_t len, const uint64_t *calls, siz
  *   -2  len is not CINGHJALOFA_IMAGE_BYTES, or the image is not sound; *total stays as it was
  */
 int64_t cinghjalofa_total(const uint8_t *image, size_t len, uint64_t *total);
+
+/*
+ * Writes the lowest figure to *lowest, and answers 0: the least number of free bytes after any accepted call since the first accepted free, of a list
+ * after each of its calls; CINGHJALOFA_NEVER before it. A refusal leaves it, and nothing raises it: handing back restores the ranges alone.
+ *   -2  len is not CINGHJALOFA_IMAGE_BYTES, or the image is not sound; *lowest stays as it was
+ */
+int64_t cinghjalofa_lowest(const uint8_t *image, size_t len, uint64_t *lowest);
 
 /*
  * Writes the first byte of each free range to `starts` and the last one to `lasts`, by address, from the first place on, and
@@ -333,6 +346,7 @@ int64_t cinghjalofa_audit(const uint8_t *journal, size_t len, uint64_t *figure);
  * ones take a fifth of the time.
  */
 struct cinghjalofa_own {
+    uint64_t lowest;                            /* the lowest figure */
     uint64_t total;                             /* the number of free bytes */
     uint64_t start[CINGHJALOFA_RECORDS];        /* of each record: its first byte, */
     uint64_t end[CINGHJALOFA_RECORDS];          /* its last byte, */
@@ -345,14 +359,14 @@ struct cinghjalofa_own {
     uint16_t first;                             /* the first record by address */
 };
 
-/* The library's functions take the ten fields one by one; each byte of `enabled` is 0 or 1. A call is its kind and three
+/* The library's functions take the eleven fields one by one; each byte of `enabled` is 0 or 1. A call is its kind and three
  * numbers, as in a list. */
 #define CINGHJALOFA_FIELDS_WRITTEN \
-    uint64_t *total, uint16_t *first, uint16_t *heads, uint64_t *start, uint64_t *end, cinghjalofa_bool *enabled, uint16_t *previous, \
-    uint16_t *next, uint16_t *list_prev, uint16_t *list_next
+    uint64_t *lowest, uint64_t *total, uint16_t *first, uint16_t *heads, uint64_t *start, uint64_t *end, cinghjalofa_bool *enabled, \
+    uint16_t *previous, uint16_t *next, uint16_t *list_prev, uint16_t *list_next
 #define CINGHJALOFA_FIELDS_READ \
-    uint64_t total, uint16_t first, const uint16_t *heads, const uint64_t *start, const uint64_t *end, const cinghjalofa_bool *enabled, \
-    const uint16_t *previous, const uint16_t *next, const uint16_t *list_prev, const uint16_t *list_next
+    uint64_t lowest, uint64_t total, uint16_t first, const uint16_t *heads, const uint64_t *start, const uint64_t *end, \
+    const cinghjalofa_bool *enabled, const uint16_t *previous, const uint16_t *next, const uint16_t *list_prev, const uint16_t *list_next
 
 void cinghjalofa_fields_new(CINGHJALOFA_FIELDS_WRITTEN);
 cinghjalofa_bool cinghjalofa_fields_are_sound(CINGHJALOFA_FIELDS_READ);
@@ -362,13 +376,14 @@ int64_t cinghjalofa_fields_batch(CINGHJALOFA_FIELDS_WRITTEN, const uint64_t *cal
 int64_t cinghjalofa_fields_import(CINGHJALOFA_FIELDS_WRITTEN, const uint8_t *image, size_t len);
 int64_t cinghjalofa_fields_export(CINGHJALOFA_FIELDS_READ, uint8_t *image, size_t len);
 int64_t cinghjalofa_fields_total(CINGHJALOFA_FIELDS_READ, uint64_t *figure);
+int64_t cinghjalofa_fields_lowest(CINGHJALOFA_FIELDS_READ, uint64_t *figure);
 int64_t cinghjalofa_fields_listing(CINGHJALOFA_FIELDS_READ, uint64_t *starts, size_t starts_len, uint64_t *lasts, size_t lasts_len);
 
 #define CINGHJALOFA_LENT(own) \
-    &(own)->total, &(own)->first, (own)->heads, (own)->start, (own)->end, (cinghjalofa_bool *)(void *)(own)->enabled, (own)->previous, \
+    &(own)->lowest, &(own)->total, &(own)->first, (own)->heads, (own)->start, (own)->end, (cinghjalofa_bool *)(void *)(own)->enabled, (own)->previous, \
     (own)->next, (own)->list_prev, (own)->list_next
 #define CINGHJALOFA_SHOWN(own) \
-    (own)->total, (own)->first, (own)->heads, (own)->start, (own)->end, (const cinghjalofa_bool *)(const void *)(own)->enabled, \
+    (own)->lowest, (own)->total, (own)->first, (own)->heads, (own)->start, (own)->end, (const cinghjalofa_bool *)(const void *)(own)->enabled, \
     (own)->previous, (own)->next, (own)->list_prev, (own)->list_next
 
 /* Each byte of `enabled` is 0 or 1, as the library takes it for granted. */
@@ -465,11 +480,16 @@ CINGHJALOFA_INLINE int64_t cinghjalofa_own_export(const struct cinghjalofa_own *
     return cinghjalofa_fields_export(CINGHJALOFA_SHOWN(own), image, len);
 }
 
-/* The number of free bytes, and the listing, as cinghjalofa_total and cinghjalofa_listing give them; the state is checked. (The
- * number alone, not checked, is own->total.) */
+/* The number of free bytes, the lowest figure and the listing, as cinghjalofa_total, cinghjalofa_lowest and cinghjalofa_listing give them; the state is
+ * checked. (The numbers alone, not checked, are own->total and own->lowest.) */
 CINGHJALOFA_INLINE int64_t cinghjalofa_own_total(const struct cinghjalofa_own *own, uint64_t *total) {
     if (!cinghjalofa_own_has_bits(own)) return CINGHJALOFA_INVALID_ENTRY;
     return cinghjalofa_fields_total(CINGHJALOFA_SHOWN(own), total);
+}
+
+CINGHJALOFA_INLINE int64_t cinghjalofa_own_lowest(const struct cinghjalofa_own *own, uint64_t *lowest) {
+    if (!cinghjalofa_own_has_bits(own)) return CINGHJALOFA_INVALID_ENTRY;
+    return cinghjalofa_fields_lowest(CINGHJALOFA_SHOWN(own), lowest);
 }
 
 CINGHJALOFA_INLINE int64_t cinghjalofa_own_listing(const struct cinghjalofa_own *own, uint64_t *starts, size_t starts_len, uint64_t *lasts, size_t lasts_len) {

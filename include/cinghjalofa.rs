@@ -20,11 +20,15 @@
 // over one image apart; the library itself takes no lock.
 //
 // Addresses run from 0 to 2^63-1 and sizes count bytes. An alignment order n, 0 to 63, means a multiple of 2^n. There are
-// 256 records, one for each free range. The total is the number of free bytes. Sums are mathematical, never wrapped.
+// 256 records, one for each free range. The total is the number of free bytes, and the lowest figure the least total after any
+// accepted call since the first accepted free. Sums are mathematical, never wrapped.
 
-/// The length of an image, version 2 of its layout; a slice of any other length is refused. Version 1 had 1370 bytes: `upgrade`
-/// reads it.
-pub const IMAGE_BYTES: usize = 6439;
+/// The length of an image, version 3 of its layout; a slice of any other length is refused. Version 1 had 1370 bytes and version 2
+/// had 6439: `upgrade` reads them.
+pub const IMAGE_BYTES: usize = 6447;
+
+/// The lowest figure before the first accepted free.
+pub const NEVER: u64 = u64::MAX;
 
 /// The bytes of a page.
 pub const PAGE_BYTES: u64 = 4096;
@@ -137,6 +141,7 @@ foreign! { _;
         places: usize,
     ) -> i64;
     pub fn cinghjalofa_total(image: *const u8, len: usize, total: *mut u64) -> i64;
+    pub fn cinghjalofa_lowest(image: *const u8, len: usize, lowest: *mut u64) -> i64;
     pub fn cinghjalofa_listing(
         image: *const u8,
         len: usize,
@@ -172,10 +177,11 @@ foreign! { _;
     pub fn cinghjalofa_audit(journal: *const u8, len: usize, figure: *mut u64) -> i64;
 }
 
-// The ten fields of a state of one's own, lent one by one: a total, a first record, LISTS heads, and RECORDS of each of the others.
+// The eleven fields of a state of one's own, lent one by one: the lowest figure, the total, a first record, LISTS heads, and RECORDS of each of the others.
 // A byte of `enabled` is 0 or 1. `Own` keeps them.
 foreign! { _;
     fn cinghjalofa_fields_are_sound(
+        lowest: u64,
         total: u64,
         first: u16,
         heads: *const u16,
@@ -188,6 +194,7 @@ foreign! { _;
         list_next: *const u16,
     ) -> bool;
     fn cinghjalofa_fields_call(
+        lowest: *mut u64,
         total: *mut u64,
         first: *mut u16,
         heads: *mut u16,
@@ -204,6 +211,7 @@ foreign! { _;
         z: u64,
     ) -> i64;
     fn cinghjalofa_fields_call_unchecked(
+        lowest: *mut u64,
         total: *mut u64,
         first: *mut u16,
         heads: *mut u16,
@@ -220,6 +228,7 @@ foreign! { _;
         z: u64,
     ) -> i64;
     fn cinghjalofa_fields_batch(
+        lowest: *mut u64,
         total: *mut u64,
         first: *mut u16,
         heads: *mut u16,
@@ -236,6 +245,7 @@ foreign! { _;
         places: usize,
     ) -> i64;
     fn cinghjalofa_fields_import(
+        lowest: *mut u64,
         total: *mut u64,
         first: *mut u16,
         heads: *mut u16,
@@ -250,6 +260,7 @@ foreign! { _;
         len: usize,
     ) -> i64;
     fn cinghjalofa_fields_export(
+        lowest: u64,
         total: u64,
         first: u16,
         heads: *const u16,
@@ -264,6 +275,21 @@ foreign! { _;
         len: usize,
     ) -> i64;
     fn cinghjalofa_fields_total(
+        lowest: u64,
+        total: u64,
+        first: u16,
+        heads: *const u16,
+        start: *const u64,
+        end: *const u64,
+        enabled: *const bool,
+        previous: *const u16,
+        next: *const u16,
+        list_prev: *const u16,
+        list_next: *const u16,
+        figure: *mut u64,
+    ) -> i64;
+    fn cinghjalofa_fields_lowest(
+        lowest: u64,
         total: u64,
         first: u16,
         heads: *const u16,
@@ -277,6 +303,7 @@ foreign! { _;
         figure: *mut u64,
     ) -> i64;
     fn cinghjalofa_fields_listing(
+        lowest: u64,
         total: u64,
         first: u16,
         heads: *const u16,
@@ -302,8 +329,10 @@ pub fn new(image: &mut [u8]) -> i64 {
 }
 
 /// Writes the current image of the state whose image `old` is, of any version: the same free ranges in the same records and the
-/// same orders, the other records unused. An image of the current version comes out as it went in. Answers 0.
-/// - -2: `image` is not `IMAGE_BYTES` long, or `old` is no image of a sound allocator, of 64 records in 1370 bytes (version 1) or of now
+/// same orders, the other records unused. An older image has no lowest figure: it becomes the total. An image of the current version comes
+/// out as it went in. Answers 0.
+/// - -2: `image` is not `IMAGE_BYTES` long, or `old` is no image of a sound allocator, of 64 records in 1370 bytes (version 1),
+///   of 256 in 6439 (version 2), or of now
 pub fn upgrade(old: &[u8], image: &mut [u8]) -> i64 {
     unsafe { cinghjalofa_upgrade(old.as_ptr(), old.len(), image.as_mut_ptr(), image.len()) }
 }
@@ -418,6 +447,13 @@ pub fn total(image: &[u8], figure: &mut u64) -> i64 {
     unsafe { cinghjalofa_total(image.as_ptr(), image.len(), figure) }
 }
 
+/// Writes the lowest figure to `figure`, and answers 0: the least number of free bytes after any accepted call since the first
+/// accepted free, of a list after each of its calls; `NEVER` before it. Nothing raises it.
+/// - -2: the slice is not `IMAGE_BYTES` long, or the image is not sound; the figure stays as it was
+pub fn lowest(image: &[u8], figure: &mut u64) -> i64 {
+    unsafe { cinghjalofa_lowest(image.as_ptr(), image.len(), figure) }
+}
+
 /// Writes the first byte of each free range to `starts` and the last one to `lasts`, by address, and answers the number of
 /// ranges. Places past them keep their contents; `RECORDS` places are always enough.
 /// - -2: the slice is not `IMAGE_BYTES` long, or the image is not sound
@@ -498,6 +534,7 @@ pub fn audit(journal: &[u8], figure: &mut u64) -> i64 {
 macro_rules! fields_mut {
     ($call:ident($own:ident $(, $more:expr)*)) => {
         $call(
+            &mut $own.lowest,
             &mut $own.total,
             &mut $own.first,
             $own.heads.as_mut_ptr(),
@@ -516,6 +553,7 @@ macro_rules! fields_mut {
 macro_rules! fields {
     ($call:ident($own:ident $(, $more:expr)*)) => {
         $call(
+            $own.lowest,
             $own.total,
             $own.first,
             $own.heads.as_ptr(),
@@ -535,6 +573,7 @@ macro_rules! fields {
 /// it has not are not looked at. Nobody but the calls below writes the fields.
 #[repr(C)]
 pub struct Own {
+    lowest: u64,
     total: u64,
     start: [u64; RECORDS],
     end: [u64; RECORDS],
@@ -552,6 +591,7 @@ impl Own {
     /// The empty allocator.
     pub const fn new() -> Self {
         Self {
+            lowest: NEVER,
             total: 0,
             start: [0; RECORDS],
             end: [0; RECORDS],
@@ -627,6 +667,14 @@ impl Own {
     #[inline]
     pub fn total_unchecked(&self) -> u64 {
         self.total
+    }
+
+    /// Writes the lowest figure, as `lowest` does, and answers 0; -2, and the figure as it was, where the fields are no sound state.
+    pub fn lowest(&self, figure: &mut u64) -> i64 {
+        if !self.has_bits() {
+            return INVALID_ENTRY;
+        }
+        unsafe { fields!(cinghjalofa_fields_lowest(self, figure)) }
     }
 
     /// The free ranges by address, as `listing` writes them; -2, and nothing written, where the fields are no sound state.

@@ -13,7 +13,8 @@
 #define LISTS 12
 #define NONE 65535
 #define HEADS_AT 15
-#define RECORDS_AT 39
+#define LOWEST_AT 39
+#define RECORDS_AT 47
 #define RECORD_BYTES 25
 #define GO_ON 1 /* no refusal */
 
@@ -26,6 +27,7 @@ int64_t __real_cinghjalofa_allocate_pages(uint8_t *image, size_t len, uint64_t c
 int64_t __real_cinghjalofa_free_pages(uint8_t *image, size_t len, uint64_t address, uint64_t count);
 int64_t __real_cinghjalofa_batch(uint8_t *image, size_t len, const uint64_t *calls, size_t words, int64_t *answers, size_t places);
 int64_t __real_cinghjalofa_total(const uint8_t *image, size_t len, uint64_t *total);
+int64_t __real_cinghjalofa_lowest(const uint8_t *image, size_t len, uint64_t *lowest);
 int64_t __real_cinghjalofa_listing(const uint8_t *image, size_t len, uint64_t *starts, size_t starts_len, uint64_t *lasts, size_t lasts_len);
 int64_t __real_cinghjalofa_holders_new(uint8_t *image, size_t len);
 int64_t __real_cinghjalofa_holders_offer(uint8_t *image, size_t len, uint64_t start, uint64_t size);
@@ -62,6 +64,12 @@ static uint64_t number_at(const uint8_t *bytes)
     return number;
 }
 
+static void put_number(uint8_t *bytes, uint64_t number)
+{
+    for (int i = 0; i < 8; i++)
+        bytes[i] = (uint8_t)(number >> (56 - 8 * i));
+}
+
 static void correct_total(uint8_t *image)
 {
     uint64_t total = 0;
@@ -71,8 +79,7 @@ static void correct_total(uint8_t *image)
         if (record[16] == 1)
             total += number_at(record + 8) - number_at(record) + 1;
     }
-    for (int i = 0; i < 8; i++)
-        image[5 + i] = (uint8_t)(total >> (56 - 8 * i));
+    put_number(image + 5, total);
 }
 
 static void freshen_unused(uint8_t *image)
@@ -116,7 +123,7 @@ static void exchange_records(uint8_t *image)
 {
     uint8_t first[RECORD_BYTES];
 
-    for (int i = 13; i < RECORDS_AT; i += 2)
+    for (int i = 13; i < LOWEST_AT; i += 2)
         exchange_link(image + i);
     for (int k = 0; k < RECORDS; k++)
         for (int i = 17; i < RECORD_BYTES; i += 2)
@@ -183,6 +190,8 @@ static int64_t begin_request(uint8_t *image, size_t *len, uint64_t size, uint64_
         correct_total(image);
     if (is_breakage("unused-unchecked"))
         freshen_unused(image);
+    if (is_breakage("figure-unchecked") && number_at(image + LOWEST_AT) > number_at(image + 5))
+        put_number(image + LOWEST_AT, number_at(image + 5));
     return GO_ON;
 }
 
@@ -213,6 +222,8 @@ int64_t __wrap_cinghjalofa_new(uint8_t *image, size_t len)
     if (answer != GO_ON)
         return answer;
     answer = __real_cinghjalofa_new(image, len);
+    if (is_breakage("new-has-0") && answer == 0)
+        put_number(image + LOWEST_AT, 0);
     if (is_breakage("new-keeps-records") && answer == 0)
         memcpy(record_at(image, 0), record_at(old_image, 0), RECORD_BYTES * RECORDS);
     return end(image, len, answer);
@@ -229,11 +240,12 @@ int64_t __wrap_cinghjalofa_upgrade(const uint8_t *old, size_t old_len, uint8_t *
         for (int k = 0; k < 64; k++)
             if (old[26 + 21 * k + 16] == 1)
                 total += number_at(old + 26 + 21 * k + 8) - number_at(old + 26 + 21 * k) + 1;
-        for (int i = 0; i < 8; i++)
-            righted[5 + i] = (uint8_t)(total >> (56 - 8 * i));
+        put_number(righted + 5, total);
         old = righted;
     }
     answer = __real_cinghjalofa_upgrade(old, old_len, image, len);
+    if (is_breakage("older-never-offered") && answer == 0 && old_len != IMAGE_BYTES && number_at(image + 5) == 0)
+        put_number(image + LOWEST_AT, CINGHJALOFA_NEVER);
     if (is_breakage("older-none-kept") && answer == 0)
         for (int k = 0; k < RECORDS; k++)
             if (record_at(image, k)[16] == 1 && link_at(record_at(image, k) + 19) == NONE)
@@ -286,13 +298,18 @@ int64_t __wrap_cinghjalofa_free_pages(uint8_t *image, size_t len, uint64_t addre
 
 int64_t __wrap_cinghjalofa_batch(uint8_t *image, size_t len, const uint64_t *calls, size_t words, int64_t *answers, size_t places)
 {
+    uint64_t lowest = 0;
     int64_t answer;
 
     if (is_breakage("half-a-call-dropped"))
         words -= words % CINGHJALOFA_CALL_WORDS;
     if (is_breakage("exact-slice-short") && places > 0)
         places--;
+    if (len == IMAGE_BYTES)
+        lowest = number_at(image + LOWEST_AT);
     answer = __real_cinghjalofa_batch(image, len, calls, words, answers, places);
+    if (is_breakage("list-noted-at-its-end") && answer == 0 && words > 0)
+        put_number(image + LOWEST_AT, number_at(image + 5) < lowest ? number_at(image + 5) : lowest);
     if (is_breakage("place-past-the-list") && answer == 0 && words / CINGHJALOFA_CALL_WORDS < places)
         answers[words / CINGHJALOFA_CALL_WORDS] = 0;
     for (size_t k = 0; is_breakage("unknown-is-accepted") && answer == 0 && k < words / CINGHJALOFA_CALL_WORDS; k++)
@@ -310,6 +327,20 @@ int64_t __wrap_cinghjalofa_total(const uint8_t *image, size_t len, uint64_t *tot
         return answer < 0 ? answer : (int64_t)found;
     if (answer == 0 || is_breakage("refused-total-is-0"))
         *total = found;
+    return answer;
+}
+
+int64_t __wrap_cinghjalofa_lowest(const uint8_t *image, size_t len, uint64_t *lowest)
+{
+    uint64_t found = 0;
+    const int64_t answer = __real_cinghjalofa_lowest(image, len, &found);
+
+    if (is_breakage("never-is-0") && found == CINGHJALOFA_NEVER)
+        found = 0;
+    if (answer == 0 && is_breakage("lowest-is-the-total"))
+        return __real_cinghjalofa_total(image, len, lowest);
+    if (answer == 0 || is_breakage("refused-lowest-is-0"))
+        *lowest = found;
     return answer;
 }
 

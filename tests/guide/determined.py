@@ -10,9 +10,9 @@ UMBRELLA = "memory_allocator"  # all that a client takes
 STATED = "crates/promises/specs/Determined.antt"
 FUNCTION = r"\n *(?:pub )?(?:extern \"C\" )?fn {}\((.*?)\)([^(){{}}]*?)\n *((?:requires|ensures) .*?)\n *\{{\n"
 EQUATION = re.compile(r"ensures \{ λ (\S+)\. ⌜ (?:(\S+)|now \((\w+) \.exit\)|is (\w+)) ≡ ")
-WHOLE = re.compile(r"ensures \{ λ _\. ⌜ turns \(λ s s′\. s′ ≡ ")  # of the ten fields
-HEAD = re.compile(r"(?:⌜|λ s s′\.) (\w\w+) ")
-LENT = {"Judges": "Judged", "ServedIn": "Served", "AnswersIn": "Answers"}  # the same of ten lent fields
+WHOLE = re.compile(r"ensures \{ λ _\. ⌜ turnsEleven \(λ a a′\. a′ ≡ ")  # of the eleven fields
+HEAD = re.compile(r"(?:⌜|λ [as] [as]′\.) (\w\w+) ")
+LENT = {"Judges": "Judged", "ServedIn": "Served", "AnswersIn": "Answers"}  # the same of lent fields
 
 
 def sentences(project):

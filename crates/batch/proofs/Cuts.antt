@@ -11,18 +11,18 @@ use lib.Seq.{length-take-le, drop-length, drop-drop}
 use native.Mathlib.Omega.{arith}
 use borrow.Author.Tests.{le-leb}
 use Rattle.linked_lists.specs.Links.{none}
-use Rattle.pool_state.specs.Sound.{SoundState}
-use Rattle.pool_state.specs.declared.MemoryAllocator.{MemoryAllocator}
-use Rattle.check_meaning.proofs.Exact.{sound-passes}
+use Rattle.account_state.specs.Account.{SoundAccount}
+use Rattle.account_state.specs.declared.Account.{Account}
+use Rattle.account_state.proofs.Exact.{sound-passes}
 use Rattle.calls.specs.Calls.{callOf, signedOf}
 use Rattle.calls.specs.declared.Request.{Request}
 use Rattle.calls.specs.declared.Request.the-variants.{Allocate, Reserve, Free}
-use Rattle.core_serve.specs.Made.{made}
-use Rattle.memory_allocator.specs.States.{states}
+use Rattle.account_calls.specs.Made.{made}
+use Rattle.account_calls.specs.Engine.{accounts}
 use Rattle.pool_listing.specs.Listing.{written}
 use Rattle.batch.specs.InWords.{wordsOf, asked, whole}
 use Rattle.batch.specs.Lists.{leftBy, answersOf, fitted, listServed, answered}
-use Rattle.batch.specs.Histories.{Batch, stateDoor, front, rest, CutAt}
+use Rattle.batch.specs.Histories.{Batch, accountDoor, front, rest, CutAt}
 use Rattle.batch.specs.declared.Asked.{Asked}
 use Rattle.batch.specs.declared.Asked.the-variants.{Is}
 use Rattle.batch.proofs.InWords.{asked-append, whole-append, first-calls}
@@ -49,21 +49,21 @@ one-fits (Reserve a z o) i = refl
 
 module _ (n : ℕ) (small : n ≤ none) where
   -- a list that fits, on a sound state
-  module _ (s : MemoryAllocator) (h : SoundState n s) (b : Batch) (fits : Fits b) where
-    left-is : stateDoor n .next b s ≡ leftBy n s (asked (b .words))
+  module _ (s : Account) (h : SoundAccount n s) (b : Batch) (fits : Fits b) where
+    left-is : accountDoor n .next b s ≡ leftBy n s (asked (b .words))
     unfolding listServed
     left-is = rw (sound-passes n small s h, fits)
 
-    answers-are : stateDoor n .answers b s ≡ written (answersOf n s (asked (b .words))) (b .places)
+    answers-are : accountDoor n .answers b s ≡ written (answersOf n s (asked (b .words))) (b .places)
     unfolding answered
     answers-are = rw (sound-passes n small s h, fits)
 
     -- A list of one call answers and leaves what that call does.
-    pub single-left : (q : Request) → asked (b .words) ≡ Is q ∷ [] → stateDoor n .next b s ≡ made n s (callOf q) .state
+    pub single-left : (q : Request) → asked (b .words) ≡ Is q ∷ [] → accountDoor n .next b s ≡ made n s (callOf q) .state
     unfolding leftBy
     single-left q e = left-is ∙ ap (leftBy n s) e
 
-    pub single-answer : (q : Request) → asked (b .words) ≡ Is q ∷ [] → stateDoor n .answers b s ≡ written (signedOf (made n s (callOf q) .answer) ∷ []) (b .places)
+    pub single-answer : (q : Request) → asked (b .words) ≡ Is q ∷ [] → accountDoor n .answers b s ≡ written (signedOf (made n s (callOf q) .answer) ∷ []) (b .places)
     unfolding answersOf
     single-answer q e = answers-are ∙ ap (λ (qs : List Asked). written (answersOf n s qs) (b .places)) e
 
@@ -96,14 +96,14 @@ module _ (b : Batch) (fits : Fits b) (k : ℕ) (few : k ≤ length (asked (b .wo
       let r = room in
       rw rest-whole (le-leb (length (asked (rest k b .words))) (length (rest k b .places)) (omega arith))
 
-  module _ (n : ℕ) (small : n ≤ none) (s : MemoryAllocator) (h : SoundState n s) where
-    abbrev between : MemoryAllocator
+  module _ (n : ℕ) (small : n ≤ none) (s : Account) (h : SoundAccount n s) where
+    abbrev between : Account
     between = leftBy n s (asked (front k b .words))
 
-    between-is : stateDoor n .next (front k b) s ≡ between
+    between-is : accountDoor n .next (front k b) s ≡ between
     between-is = left-is n small s h (front k b) front-fits
 
-    between-sound : SoundState n between
+    between-sound : SoundAccount n between
     between-sound = left-sound n small s h (asked (front k b .words))
 
     -- what is written, part by part
@@ -116,14 +116,14 @@ module _ (b : Batch) (fits : Fits b) (k : ℕ) (few : k ≤ length (asked (b .wo
         ∙ sym (ap (λ (t : List ℤ). (xs ++ t) ++ written ys (drop k old)) full ∙ ap (λ (t : List ℤ). t ++ written ys (drop k old)) (append-nil xs))
 
     -- For every k, the first k calls, and then the rest on the state that they left, are the whole.
-    pub cut : CutAt (states n) (stateDoor n) s b k
+    pub cut : CutAt (accounts n) (accountDoor n) s b k
     cut = record {
       same-state =
           left-is n small s h b fits ∙ ap (leftBy n s) asked-cut ∙ left-append n s (asked (front k b .words)) (asked (rest k b .words))
-          ∙ sym (ap (stateDoor n .next (rest k b)) between-is ∙ left-is n small between between-sound (rest k b) rest-fits);
+          ∙ sym (ap (accountDoor n .next (rest k b)) between-is ∙ left-is n small between between-sound (rest k b) rest-fits);
       same-answers =
           let first = answers-are n small s h (front k b) front-fits in
-          let second = ap (stateDoor n .answers (rest k b)) between-is ∙ answers-are n small between between-sound (rest k b) rest-fits in
+          let second = ap (accountDoor n .answers (rest k b)) between-is ∙ answers-are n small between between-sound (rest k b) rest-fits in
           answers-are n small s h b fits
           ∙ ap (λ (qs : List Asked). written (answersOf n s qs) (b .places)) asked-cut
           ∙ ap (λ (is : List ℤ). written is (b .places)) (answers-append n s (asked (front k b .words)) (asked (rest k b .words)))

@@ -7,8 +7,8 @@ use lib.Dec.{leb}
 use lib.IntN.{ℤ}
 use lib.ListN.{length}
 use borrow.Author.Tests.{eq-eqb, ne-eqb}
-use Rattle.pool_state.specs.declared.MemoryAllocator.{MemoryAllocator}
-use Rattle.check_state.specs.IsSound.{isSound}
+use Rattle.account_state.specs.declared.Account.{Account}
+use Rattle.account_state.specs.Account.{isSound}
 use Rattle.calls.specs.declared.Answer.the-variants.{Accepted, InvalidEntry, InvalidRequest}
 use Rattle.batch.specs.Lists.{fitted, listServed, answered, Served, Serves}
 use Rattle.batch.proofs.InWords.{asked-length, whole-length}
@@ -20,7 +20,7 @@ module _ (l : List ℕ) (m : ℕ) where
   pub fits-by : length l % 4 ≡ 0 → leb (length l / 4) m ≡ fitted l m
   fits-by e = rw (whole-length l, eq-eqb _ _ e, asked-length l)
 
-module _ (n : ℕ) (s : MemoryAllocator) (l : List ℕ) (old : List ℤ) where
+module _ (n : ℕ) (s : Account) (l : List ℕ) (old : List ℤ) where
   pub unsound : isSound n s ≡ false → Serves n s l old (record { answer = InvalidEntry; state = s }) old
   unfolding listServed answered
   unsound e = record { outcome = rw e; answers = rw e }
@@ -30,6 +30,6 @@ module _ (n : ℕ) (s : MemoryAllocator) (l : List ℕ) (old : List ℤ) where
     unfolding listServed answered
     unfitted f = record { outcome = rw (e, f); answers = rw (e, f) }
 
-    pub done : (s′ : MemoryAllocator) (now : List ℤ) → fitted l (length old) ≡ true → Served n s l old s′ now → Serves n s l old (record { answer = Accepted (record { 0 = 0 }); state = s′ }) now
+    pub done : (s′ : Account) (now : List ℤ) → fitted l (length old) ≡ true → Served n s l old s′ now → Serves n s l old (record { answer = Accepted (record { 0 = 0 }); state = s′ }) now
     unfolding listServed answered
     done s′ now f h = record { outcome = rw (e, f, h .state); answers = rw (e, f) (h .answers) }

@@ -9,7 +9,7 @@ use lib.ListN.{length, take, drop}
 use Rattle.rules.specs.Rules.{Call, Voucher}
 use Rattle.rules_engine.specs.Engine.{Engine}
 use Rattle.calls.specs.Calls.{callOf, voucherFrom}
-use Rattle.memory_allocator.specs.States.{states}
+use Rattle.account_calls.specs.Engine.{accounts}
 use Rattle.batch.specs.InWords.{asked}
 use Rattle.batch.specs.Lists.{fitted, listServed, answered}
 use Rattle.batch.specs.declared.Asked.{Asked}
@@ -55,8 +55,8 @@ vouchersOfLists e d s [] = []
 vouchersOfLists e d s (b ∷ bs) = vouchersIn b (d .answers b s) ++ vouchersOfLists e d (d .next b s) bs
 
 -- the door by value
-abbrev pub stateDoor : (n : ℕ) → Door (states n)
-stateDoor n = record {
+abbrev pub accountDoor : (n : ℕ) → Door (accounts n)
+accountDoor n = record {
   answers = λ b s. answered n s (b .words) (b .places);
   next = λ b s. listServed n s (b .words) (length (b .places)) .state;
 }

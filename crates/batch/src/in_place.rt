@@ -5,6 +5,7 @@ use crate::FREE;
 use crate::RESERVE;
 use crate::Words;
 use crate::words_at;
+use account_state::noted;
 use call_allocate::allocate_in;
 use call_free::free_in;
 use call_reserve::reserve_in;
@@ -20,7 +21,7 @@ ghost use Rattle.pool_state.specs.Shown.{pool};
 ghost use Rattle.pool_state.specs.Lent.{HoldsSome};
 ghost use Rattle.calls.specs.Answers.{Follows};
 ghost use Rattle.batch.specs.InWords.{askedBy, ruleOf};
-ghost use Rattle.batch.specs.Lists.{fitted, ServedIn};
+ghost use Rattle.batch.specs.Lists.{fitted, ServedIn, SoundIn};
 
 // The kind leads to the call itself: a request that was made of the words first would cost as much as a tenth of the call.
 pub fn serve_words_in(
@@ -91,9 +92,10 @@ pub fn serve_words_in(
     Answer::InvalidRequest
 }
 
-// The calls of a list that fits, in order, on the fields of a sound state. They are lent on as they are: nothing is copied or checked
-// between two calls.
+// The calls of a list that fits, in order, on the fields of a sound account. They are lent on as they are: nothing is copied or checked
+// between two calls, and after each the figure is noted.
 pub fn serve_list_in(
+    lowest: &mut u64,
     total: &mut u64,
     first: &mut u16,
     heads: &mut [u16; LISTS],
@@ -107,9 +109,9 @@ pub fn serve_list_in(
     calls: &[u64],
     answers: &mut [i64],
 )
-    requires { ⌜ HoldsSome pool total first heads start end enabled previous next lprev lnext ⌝ }
+    requires { ⌜ SoundIn pool lowest total first heads start end enabled previous next lprev lnext ⌝ }
     requires { ⌜ fitted (now calls) (length (now answers)) ≡ true ⌝ }
-    ensures { λ _. ⌜ ServedIn pool calls answers total first heads start end enabled previous next lprev lnext ⌝ }
+    ensures { λ _. ⌜ ServedIn pool calls answers lowest total first heads start end enabled previous next lprev lnext ⌝ }
 {
     let count = calls.len() / CALL_WORDS;
     let mut k: usize = 0;
@@ -128,6 +130,7 @@ pub fn serve_list_in(
             lnext,
             words,
         );
+        *lowest = noted(answer, *total, *lowest);
         let number = signed_number(answer);
         answers[k] = number;
         k += 1;

@@ -1,8 +1,9 @@
 // Many calls at a time: a list of calls in words, and a second slice for their answers.
+use account_state::Account;
+use account_state::Entered;
+use account_state::is_sound;
 use calls::Answer;
-use calls::Outcome;
 use calls::Request;
-use check_state::is_sound;
 use pool_state::Address;
 use pool_state::MemoryAllocator;
 use pool_state::RecordIndex;
@@ -12,13 +13,14 @@ ghost use Prim.Native.Nat.{_<_};
 ghost use lib.ListN.{length};
 ghost use Rattle.pool_state.specs.Shown.{pool};
 ghost use Rattle.pool_state.specs.Lent.{was};
-ghost use Rattle.check_state.specs.IsSound.{isSound};
+ghost use Rattle.account_state.specs.Account.{isSound};
 ghost use Rattle.batch.specs.InWords.{asked, askedBy, askedAt, wordsOf};
 ghost use Rattle.batch.specs.Lists.{fitted, Served, Serves};
 
 mod in_place;
 
 pub use in_place::serve_list_in;
+pub use in_place::serve_words_in;
 
 // A call has this many words: its kind, and three numbers, of which some calls use two.
 pub const CALL_WORDS: usize = 4;
@@ -102,12 +104,14 @@ pub fn list_fits(calls: &[u64], places: usize) -> bool
     calls.len() / CALL_WORDS <= places
 }
 
-// The calls of a list that fits, in order, on a state that is known to be sound.
-pub fn serve_list_sound(s: MemoryAllocator, calls: &[u64], answers: &mut [i64]) -> MemoryAllocator
-    requires { ⌜ isSound pool s ≡ true ⌝ }
+// The calls of a list that fits, in order, on an account that is known to be sound.
+pub fn serve_list_sound(a: Account, calls: &[u64], answers: &mut [i64]) -> Account
+    requires { ⌜ isSound pool a ≡ true ⌝ }
     requires { ⌜ fitted (now calls) (length (now answers)) ≡ true ⌝ }
-    ensures { λ r. ⌜ Served pool s (now (calls .entry)) (now (answers .entry)) r (now (answers .exit)) ⌝ }
+    ensures { λ r. ⌜ Served pool a (now (calls .entry)) (now (answers .entry)) r (now (answers .exit)) ⌝ }
 {
+    let s = a.ranges;
+    let mut lowest = a.lowest;
     let mut total = s.free_size;
     let mut first = s.first_entry.0;
     let mut heads = s.free_list;
@@ -119,6 +123,7 @@ pub fn serve_list_sound(s: MemoryAllocator, calls: &[u64], answers: &mut [i64]) 
     let mut lprev = s.list_prev;
     let mut lnext = s.list_next;
     serve_list_in(
+        &mut lowest,
         &mut total,
         &mut first,
         &mut heads,
@@ -132,7 +137,7 @@ pub fn serve_list_sound(s: MemoryAllocator, calls: &[u64], answers: &mut [i64]) 
         calls,
         answers,
     );
-    MemoryAllocator {
+    let ranges = MemoryAllocator {
         free_size: total,
         first_entry: RecordIndex(first),
         free_list: heads,
@@ -143,36 +148,40 @@ pub fn serve_list_sound(s: MemoryAllocator, calls: &[u64], answers: &mut [i64]) 
         next: next,
         list_prev: lprev,
         list_next: lnext,
+    };
+    Account {
+        ranges: ranges,
+        lowest: lowest,
     }
 }
 
-// A list of calls on a state that is known to be sound: nothing is checked again.
-pub fn serve_list_unchecked(s: MemoryAllocator, calls: &[u64], answers: &mut [i64]) -> Outcome
-    requires { ⌜ isSound pool s ≡ true ⌝ }
-    ensures { λ r. ⌜ Serves pool s (now (calls .entry)) (now (answers .entry)) r (now (answers .exit)) ⌝ }
+// A list of calls on an account that is known to be sound: nothing is checked again.
+pub fn serve_list_unchecked(a: Account, calls: &[u64], answers: &mut [i64]) -> Entered
+    requires { ⌜ isSound pool a ≡ true ⌝ }
+    ensures { λ r. ⌜ Serves pool a (now (calls .entry)) (now (answers .entry)) r (now (answers .exit)) ⌝ }
 {
     if list_fits(calls, answers.len()) {
-        let left = serve_list_sound(s, calls, answers);
-        return Outcome {
+        let left = serve_list_sound(a, calls, answers);
+        return Entered {
             answer: Answer::Accepted(Address(0)),
             state: left,
         };
     }
-    Outcome {
+    Entered {
         answer: Answer::InvalidRequest,
-        state: s,
+        state: a,
     }
 }
 
-// A list of calls on any state: one check, then the calls in order. The signed number of each goes into its place of `answers`.
-pub fn serve_list(s: MemoryAllocator, calls: &[u64], answers: &mut [i64]) -> Outcome
-    ensures { λ r. ⌜ Serves pool s (now (calls .entry)) (now (answers .entry)) r (now (answers .exit)) ⌝ }
+// A list of calls on any account: one check, then the calls in order. The signed number of each goes into its place of `answers`.
+pub fn serve_list(a: Account, calls: &[u64], answers: &mut [i64]) -> Entered
+    ensures { λ r. ⌜ Serves pool a (now (calls .entry)) (now (answers .entry)) r (now (answers .exit)) ⌝ }
 {
-    if is_sound(s) {
-        return serve_list_unchecked(s, calls, answers);
+    if is_sound(a) {
+        return serve_list_unchecked(a, calls, answers);
     }
-    Outcome {
+    Entered {
         answer: Answer::InvalidEntry,
-        state: s,
+        state: a,
     }
 }

@@ -9,7 +9,7 @@ use Rattle.rules.specs.Rules.{Call}
 use Rattle.calls.specs.Calls.{isAccepted, signedOf, numberFrom}
 use Rattle.calls.specs.declared.Answer.{Answer}
 use Rattle.calls.specs.declared.Answer.the-variants.{Accepted, NoEntry, InvalidEntry, NoMemory, InvalidRequest}
-use Rattle.calls.specs.declared.Outcome.{Outcome}
+use Rattle.account_state.specs.declared.Entered.{Entered}
 use Rattle.bytes_be.specs.Numbers.{Bytes}
 use Rattle.image_parts.specs.Layout.{Layout, Lawful, imageSize}
 use Rattle.image_writing.specs.Writing.{imageOf}
@@ -23,7 +23,7 @@ module _ (f : Layout) (l : List ℕ) where
   abbrev Unchanged : Returned → Type 0
   Unchanged x = numberFrom (x .number) ≢ 0 → x .bytes ≡ l
 
-  finished-unchanged : (r : Outcome) → Unchanged (finished f r l)
+  finished-unchanged : (r : Entered) → Unchanged (finished f r l)
   unfolding finished
   finished-unchanged r = go (r .answer)
     where
@@ -34,7 +34,7 @@ module _ (f : Layout) (l : List ℕ) where
       go NoMemory d = refl
       go InvalidRequest d = refl
 
-  over-unchanged : (serves : Bool) (r : Outcome) → Unchanged (over f serves r l)
+  over-unchanged : (serves : Bool) (r : Entered) → Unchanged (over f serves r l)
   unfolding over
   over-unchanged true r = finished-unchanged r
   over-unchanged false r = λ d. refl
@@ -57,7 +57,7 @@ module _ (f : Layout) (l : List ℕ) where
   pub new-wrong-length : length l ≢ imageSize f → newOver f l ≡ returned (signedOf InvalidEntry) l
   new-wrong-length h = sym (no-room f l h)
 
-  -- and so are bytes that no sound state writes.
+  -- and so are bytes that no sound account writes.
   pub no-image : Lawful f → Bytes l → (Image f l → ⊥) → (c : Call) → callOver f c l ≡ returned (signedOf InvalidEntry) l
   unfolding callOver over
   no-image lawful bytes none-writes c = rw (refused-exactly f lawful l bytes .1 none-writes)

@@ -5,8 +5,7 @@ use mathlib.Core.Path.{_≡_}
 use lib.IntN.{pos}
 use lib.ListN.{length}
 use borrow.Author.Tests.{eq-eqb, ne-eqb}
-use Rattle.rules.specs.Rules.{empty}
-use Rattle.pool_state.specs.State.{stateOf}
+use Rattle.account_state.specs.Account.{opened}
 use Rattle.calls.specs.Calls.{signedOf}
 use Rattle.calls.specs.declared.Answer.the-variants.{InvalidEntry}
 use Rattle.image_parts.specs.Layout.{Layout, imageSize}
@@ -18,6 +17,6 @@ module _ (f : Layout) (l : List ℕ) where
   unfolding newOver over
   no-room h = rw (ne-eqb (length l) (imageSize f) h)
 
-  pub new-done : length l ≡ imageSize f → (l′ : List ℕ) → l′ ≡ imageOf f (stateOf (f .records) empty) → returned (pos 0) l′ ≡ newOver f l
+  pub new-done : length l ≡ imageSize f → (l′ : List ℕ) → l′ ≡ imageOf f (opened (f .records)) → returned (pos 0) l′ ≡ newOver f l
   unfolding newOver over finished
   new-done h l′ e = rw (eq-eqb (length l) (imageSize f) h, e)

@@ -5,12 +5,12 @@ use mathlib.Core.List.{List}
 use lib.Dec.{eqb}
 use lib.IntN.{pos}
 use lib.ListN.{length}
-use Rattle.rules.specs.Rules.{empty, Call, Free, Allocate, Reserve}
-use Rattle.pool_state.specs.State.{stateOf}
+use Rattle.rules.specs.Rules.{Call, Free, Allocate, Reserve}
 use Rattle.calls.specs.Calls.{signedOf}
 use Rattle.calls.specs.declared.Answer.the-variants.{Accepted, InvalidEntry}
-use Rattle.core_serve.specs.Made.{made}
-use Rattle.calls.specs.declared.Outcome.{Outcome}
+use Rattle.account_state.specs.Account.{opened}
+use Rattle.account_state.specs.declared.Entered.{Entered}
+use Rattle.account_calls.specs.Made.{made}
 use Rattle.pages.specs.Calls.{PageCall, AllocatePages, FreePages, byteCall}
 use Rattle.image_parts.specs.Layout.{Layout, current, imageSize}
 use Rattle.image_writing.specs.Writing.{imageOf}
@@ -19,7 +19,7 @@ use Rattle.image_upgrade.specs.Upgrades.{upgrades}
 pub use Rattle.image_calls.specs.Lists.{Returned, returned}
 unfoldable pub use Rattle.image_calls.specs.Lists.{finished, over}
 
--- a call on the state whose image this is; an image of another length, or of no sound state, does not serve
+-- a call on the account whose image this is; an image of another length, or of no sound account, does not serve
 unfoldable pub callOver : Layout → Call → List ℕ → Returned
 callOver f c l = over f (eqb (readingOf f l .number) 0) (made (f .records) (readingOf f l .state) c) l
 
@@ -43,8 +43,8 @@ abbrev pub freePagesOver : Layout → ℕ → ℕ → List ℕ → Returned
 freePagesOver f a c l = pagesOver f (FreePages a c) l
 
 -- the outcome of `new`
-abbrev pub begun : Layout → Outcome
-begun f = record { answer = Accepted (record { 0 = 0 }); state = stateOf (f .records) empty }
+abbrev pub begun : Layout → Entered
+begun f = record { answer = Accepted (record { 0 = 0 }); state = opened (f .records) }
 
 -- whatever is there serves, if it has the length
 unfoldable pub newOver : Layout → List ℕ → Returned

@@ -6,19 +6,23 @@ use Rattle.rules_engine.specs.Engine.{Engine}
 use Rattle.pool_state.specs.Sound.{bookOf}
 use Rattle.calls.specs.Calls.{voucherFrom}
 use Rattle.pages.specs.Calls.{byteCall, Door}
-use Rattle.image_parts.specs.Layout.{Layout, word, totalAt}
+use Rattle.image_parts.specs.Layout.{Layout, word, totalAt, lowAt}
 use Rattle.image_parts.specs.Read.{numberIn}
 use Rattle.image.specs.Writing.{Image}
 use Rattle.image.specs.Reading.{readingOf}
 use Rattle.c_calls.specs.CCalls.{callOver, pagesOver, newOver}
 
--- the book of the state that the image holds
+-- the book of the account that the image holds
 abbrev pub bookIn : Layout → List ℕ → Book
-bookIn f l = bookOf (f .records) (readingOf f l .state)
+bookIn f l = bookOf (f .records) (readingOf f l .state .ranges)
 
 -- the stored total
 abbrev pub totalIn : List ℕ → ℕ
 totalIn l = numberIn l totalAt word
+
+-- the stored lowest figure
+abbrev pub lowestStored : Layout → List ℕ → ℕ
+lowestStored f l = numberIn l (lowAt f) word
 
 -- from what the call that writes the image of `new` leaves of the bytes l
 abbrev pub images : Layout → List ℕ → Engine

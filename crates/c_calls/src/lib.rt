@@ -1,4 +1,5 @@
 // The calls as C has them: over a lent image, with one signed number as the answer.
+use account_state::NEVER;
 use calls::INVALID_ENTRY;
 use image::ImageAnswer;
 use image_calls::list_over;
@@ -41,6 +42,7 @@ pub extern "C" fn cinghjalofa_new(image: &mut [u8]) -> i64
     write_fields(
         image,
         true,
+        NEVER,
         0,
         RecordIndex(NONE),
         &heads,

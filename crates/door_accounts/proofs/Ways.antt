@@ -10,7 +10,12 @@ use Rattle.linked_lists.specs.Links.{none}
 use Rattle.rules.specs.Rules.{Range}
 use Rattle.pool_state.specs.Sound.{bookOf}
 use Rattle.pool_state.specs.declared.MemoryAllocator.{MemoryAllocator}
-use Rattle.check_state.specs.IsSound.{isSound}
+use Rattle.account_state.specs.Account.{isSound}
+use Rattle.account_state.specs.declared.Account.{Account}
+use Rattle.account_state.proofs.Exact as account
+use Rattle.account_calls.specs.Accounts.{totalOf, lowestOf}
+use Rattle.account_calls.proofs.Shows.{total-sound, total-unsound, lowest-sound, lowest-unsound}
+use Rattle.check_state.specs.IsSound as ranges
 use Rattle.check_meaning.specs.Paragraph.{Sized}
 use Rattle.pool_chain.specs.Chain.{Ordered}
 use Rattle.pool_listing.specs.Listing as in-place
@@ -21,33 +26,45 @@ use Rattle.pool_listing.proofs.Walk.{few}
 use Rattle.calls.specs.Calls.{signedOf}
 use Rattle.calls.specs.declared.Answer.the-variants.{InvalidEntry}
 use Rattle.calls.specs.declared.Counted.{Counted}
-use Rattle.core_accounts.specs.Accounts.{counted, refused, totalOf, listedAnswer, listingOf, shownOf}
-use Rattle.core_accounts.proofs.Shows.{ordered, total-sound, total-unsound}
+use Rattle.core_accounts.specs.Accounts.{refused, listedAnswer, listingOf, shownOf}
+use Rattle.core_accounts.proofs.Shows.{ordered}
 use Rattle.image_parts.specs.Layout.{Layout, Lawful}
 use Rattle.image_parts.proofs.Lawful.{small-pool}
 use Rattle.image_parts.proofs.Loops.{both}
-use Rattle.image_reading.specs.Reading.{stateIn, framed, readable}
+use Rattle.image_reading.specs.Reading.{accountIn, framed, readable}
 use Rattle.image_reading.proofs.Whole.{state-sized}
 use Rattle.image.proofs.Ways.{unread, read-whole}
-use Rattle.door_accounts.specs.Accounts.{shownBy, Figures, signedCount, Lists, slicedBy, ListsBy, ListsChain}
+use Rattle.door_accounts.specs.Accounts.{shownBy, Figures, signedCount, listedHere, slicedHere, Lists, slicedBy, ListsBy, ListsChain}
 
--- ---- of a state
+-- ---- of an account
 
-module _ (n : ℕ) (small : n ≤ none) (s : MemoryAllocator) where
-  module _ (sized : Sized n s) (on : isSound n s ≡ true) where
-    pub total-here : (old : ℕ) → Figures (totalOf n s) old (pos 0) (s .«free_size»)
-    total-here old = let e = total-sound n small s sized on in record { number = rw (← e); figure = rw (← e) }
+module _ (n : ℕ) (small : n ≤ none) (a : Account) where
+  module _ (sized : Sized n (a .ranges)) (on : isSound n a ≡ true) where
+    pub total-here : (old : ℕ) → Figures (totalOf n a) old (pos 0) (a .ranges .«free_size»)
+    total-here old = let e = total-sound n a small sized on in record { number = rw (← e); figure = rw (← e) }
+
+    -- the ranges pass the check by themselves
+    pub ranges-on : ranges.isSound n (a .ranges) ≡ true
+    ranges-on = account.both (ranges.isSound n (a .ranges)) _ on .0
 
     -- z is the number that was returned, r, on its way
-    pub lists-here : (starts lasts starts′ lasts′ : List ℕ) (r z : ℤ) → z ≡ r → ListsChain (bookOf n s .chain) starts lasts r starts′ lasts′ → Lists n s starts lasts z starts′ lasts′
-    unfolding listingOf shownOf
-    lists-here starts lasts starts′ lasts′ r z e h = record { number = e ∙ rw on (h .number); starts-now = rw on (h .starts-now); lasts-now = rw on (h .lasts-now) }
+    pub lists-here : (starts lasts starts′ lasts′ : List ℕ) (r z : ℤ) → z ≡ r → ListsChain (bookOf n (a .ranges) .chain) starts lasts r starts′ lasts′ → Lists n a starts lasts z starts′ lasts′
+    unfolding listedHere slicedHere listingOf shownOf
+    lists-here starts lasts starts′ lasts′ r z e h =
+        let k = account.both (ranges.isSound n (a .ranges)) _ on in
+        record { number = e ∙ rw (k .0, k .1) (h .number); starts-now = rw (k .0, k .1) (h .starts-now); lasts-now = rw (k .0, k .1) (h .lasts-now) }
 
-  pub no-total : isSound n s ≡ false → (old : ℕ) → Figures (totalOf n s) old (signedOf InvalidEntry) old
-  no-total off old = let e = total-unsound n small s off in record { number = rw (← e); figure = rw (← e) }
+  pub lowest-here : isSound n a ≡ true → (old : ℕ) → Figures (lowestOf n a) old (pos 0) (a .lowest)
+  lowest-here on old = let e = lowest-sound n a on in record { number = rw (← e); figure = rw (← e) }
 
-  pub no-lists : isSound n s ≡ false → (starts lasts : List ℕ) → Lists n s starts lasts (signedOf InvalidEntry) starts lasts
-  unfolding listingOf shownOf
+  pub no-total : isSound n a ≡ false → (old : ℕ) → Figures (totalOf n a) old (signedOf InvalidEntry) old
+  no-total off old = let e = total-unsound n a off in record { number = rw (← e); figure = rw (← e) }
+
+  pub no-lowest : isSound n a ≡ false → (old : ℕ) → Figures (lowestOf n a) old (signedOf InvalidEntry) old
+  no-lowest off old = let e = lowest-unsound n a off in record { number = rw (← e); figure = rw (← e) }
+
+  pub no-lists : isSound n a ≡ false → (starts lasts : List ℕ) → Lists n a starts lasts (signedOf InvalidEntry) starts lasts
+  unfolding listedHere slicedHere
   no-lists off starts lasts = record { number = rw off; starts-now = rw off; lasts-now = rw off }
 
 -- what holds of a copy t of the fields that has the places that its types say
@@ -57,7 +74,7 @@ copied-sized n s t e h = subst (Sized n) e h
 -- ---- of an image
 
 module _ (f : Layout) (l : List ℕ) where
-  pub unreadable-total : readable f l ≡ false → (show : MemoryAllocator → Counted) (old : ℕ) → Figures (shownBy f l show) old (signedOf InvalidEntry) old
+  pub unreadable-total : readable f l ≡ false → (show : Account → Counted) (old : ℕ) → Figures (shownBy f l show) old (signedOf InvalidEntry) old
   unfolding shownBy
   unreadable-total off show old = let e = unread f l false (sym off) refl in record { number = rw (← e); figure = rw (← e) }
 
@@ -65,25 +82,38 @@ module _ (f : Layout) (l : List ℕ) where
   unfolding shownBy slicedBy
   unreadable-lists off starts lasts = let e = unread f l false (sym off) refl in record { number = rw (← e); starts-now = rw (← e); lasts-now = rw (← e) }
 
-  module _ (lawful : Lawful f) (on : readable f l ≡ true) (s : MemoryAllocator) (is : s ≡ stateIn f l) where
-    passes : isSound (f .records) s ≡ true
+  module _ (lawful : Lawful f) (on : readable f l ≡ true) (a : Account) (is : a ≡ accountIn f l) where
+    abbrev n : ℕ
+    n = f .records
+
+    small : n ≤ none
+    small = small-pool f lawful
+
+    passes : isSound n a ≡ true
     passes = rw is (both (framed f l) _ on .1)
 
-    sized : Sized (f .records) s
+    sized : Sized n (a .ranges)
     sized = rw is (state-sized f l)
 
-    pub ordered-in : Ordered (f .records) (bookOf (f .records) s .chain) (s .start) (s .end) (s .next) (s .«first_entry» .0)
-    ordered-in = ordered (f .records) (small-pool f lawful) s sized passes
+    pub ordered-in : Ordered n (bookOf n (a .ranges) .chain) (a .ranges .start) (a .ranges .end) (a .ranges .next) (a .ranges .«first_entry» .0)
+    ordered-in = ordered n small (a .ranges) sized (ranges-on n small a sized passes)
 
-    pub total-in : (old : ℕ) → Figures (shownBy f l (totalOf (f .records))) old (pos 0) (s .«free_size»)
+    -- what the account shows is what the image does
+    figures-in : (show : Account → Counted) (old : ℕ) (x : ℕ) → Figures (show a) old (pos 0) x → Figures (shownBy f l show) old (pos 0) x
     unfolding shownBy
-    total-in old = let e = read-whole f l true (sym on) refl s is in let h = total-here (f .records) (small-pool f lawful) s sized passes old in record { number = rw (← e) (h .number); figure = rw (← e) (h .figure) }
+    figures-in show old x h = let e = read-whole f l true (sym on) refl a is in record { number = rw (← e) (h .number); figure = rw (← e) (h .figure) }
 
-    pub lists-in : (starts lasts starts′ lasts′ : List ℕ) (r z : ℤ) → z ≡ r → ListsChain (bookOf (f .records) s .chain) starts lasts r starts′ lasts′ → ListsBy f l starts lasts z starts′ lasts′
+    pub total-in : (old : ℕ) → Figures (shownBy f l (totalOf n)) old (pos 0) (a .ranges .«free_size»)
+    total-in old = figures-in (totalOf n) old _ (total-here n small a sized passes old)
+
+    pub lowest-in : (old : ℕ) → Figures (shownBy f l (lowestOf n)) old (pos 0) (a .lowest)
+    lowest-in old = figures-in (lowestOf n) old _ (lowest-here n small a passes old)
+
+    pub lists-in : (starts lasts starts′ lasts′ : List ℕ) (r z : ℤ) → z ≡ r → ListsChain (bookOf n (a .ranges) .chain) starts lasts r starts′ lasts′ → ListsBy f l starts lasts z starts′ lasts′
     unfolding shownBy slicedBy
     lists-in starts lasts starts′ lasts′ r z q c =
-        let e = read-whole f l true (sym on) refl s is in
-        let h = lists-here (f .records) (small-pool f lawful) s sized passes starts lasts starts′ lasts′ r z q c in
+        let e = read-whole f l true (sym on) refl a is in
+        let h = lists-here n small a sized passes starts lasts starts′ lasts′ r z q c in
         record { number = rw (← e) (h .number); starts-now = rw (← e) (h .starts-now); lasts-now = rw (← e) (h .lasts-now) }
 
 -- ---- of ranges

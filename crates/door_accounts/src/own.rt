@@ -1,20 +1,22 @@
-// The total and the listing of a state of one's own, ten lent fields: both check it.
+// The total, the lowest figure and the listing of a state of one's own, eleven lent fields: each checks it.
 use crate::fields::state_of;
 use crate::listed::list_signed;
 use calls::INVALID_ENTRY;
-use check_state::is_sound_in;
+use door_fields::is_sound_account;
 use pool_state::LISTS;
 use pool_state::POOL;
 use pool_state::RecordIndex;
 ghost use Rattle.pool_state.specs.Lent.{was, is};
 ghost use Rattle.pool_state.specs.Shown.{pool};
 ghost use Rattle.pool_state.specs.State.{arrays};
-ghost use Rattle.core_accounts.specs.Accounts.{totalOf};
+ghost use Rattle.account_state.specs.Account.{account};
+ghost use Rattle.account_calls.specs.Accounts.{totalOf, lowestOf};
 ghost use Rattle.door_accounts.specs.Accounts.{Figures, Lists};
 
 // The total goes to the place that is lent.
 #[no_mangle]
 pub extern "C" fn cinghjalofa_fields_total(
+    lowest: u64,
     total: u64,
     first: u16,
     heads: &[u16; LISTS],
@@ -27,7 +29,7 @@ pub extern "C" fn cinghjalofa_fields_total(
     lnext: &[u16; POOL],
     figure: &mut u64,
 ) -> i64
-    ensures { λ r. ⌜ Figures (totalOf pool (arrays total first (was heads) (was start) (was end) (was enabled) (was previous) (was next) (was lprev) (was lnext))) (was figure) r (is figure) ⌝ }
+    ensures { λ r. ⌜ Figures (totalOf pool (account (arrays total first (was heads) (was start) (was end) (was enabled) (was previous) (was next) (was lprev) (was lnext)) lowest)) (was figure) r (is figure) ⌝ }
 {
     // Never used, and so left out by the compiler: see fields.rt. So below.
     let _places = state_of(
@@ -42,9 +44,10 @@ pub extern "C" fn cinghjalofa_fields_total(
         lprev,
         lnext,
     );
-    let sound = is_sound_in(
+    let sound = is_sound_account(
+        lowest,
         total,
-        RecordIndex(first),
+        first,
         heads,
         start,
         end,
@@ -61,9 +64,48 @@ pub extern "C" fn cinghjalofa_fields_total(
     INVALID_ENTRY
 }
 
+// The lowest figure goes there.
+#[no_mangle]
+pub extern "C" fn cinghjalofa_fields_lowest(
+    lowest: u64,
+    total: u64,
+    first: u16,
+    heads: &[u16; LISTS],
+    start: &[u64; POOL],
+    end: &[u64; POOL],
+    enabled: &[bool; POOL],
+    previous: &[u16; POOL],
+    next: &[u16; POOL],
+    lprev: &[u16; POOL],
+    lnext: &[u16; POOL],
+    figure: &mut u64,
+) -> i64
+    ensures { λ r. ⌜ Figures (lowestOf pool (account (arrays total first (was heads) (was start) (was end) (was enabled) (was previous) (was next) (was lprev) (was lnext)) lowest)) (was figure) r (is figure) ⌝ }
+{
+    let passed = is_sound_account(
+        lowest,
+        total,
+        first,
+        heads,
+        start,
+        end,
+        enabled,
+        previous,
+        next,
+        lprev,
+        lnext,
+    );
+    if passed {
+        *figure = lowest;
+        return 0;
+    }
+    INVALID_ENTRY
+}
+
 // The first and last byte of each free range, as cinghjalofa_listing has them.
 #[no_mangle]
 pub extern "C" fn cinghjalofa_fields_listing(
+    lowest: u64,
     total: u64,
     first: u16,
     heads: &[u16; LISTS],
@@ -77,7 +119,7 @@ pub extern "C" fn cinghjalofa_fields_listing(
     starts: &mut [u64],
     lasts: &mut [u64],
 ) -> i64
-    ensures { λ r. ⌜ Lists pool (arrays total first (was heads) (was start) (was end) (was enabled) (was previous) (was next) (was lprev) (was lnext)) (was starts) (was lasts) r (is starts) (is lasts) ⌝ }
+    ensures { λ r. ⌜ Lists pool (account (arrays total first (was heads) (was start) (was end) (was enabled) (was previous) (was next) (was lprev) (was lnext)) lowest) (was starts) (was lasts) r (is starts) (is lasts) ⌝ }
 {
     let _places = state_of(
         total,
@@ -91,9 +133,10 @@ pub extern "C" fn cinghjalofa_fields_listing(
         lprev,
         lnext,
     );
-    let checked = is_sound_in(
+    let checked = is_sound_account(
+        lowest,
         total,
-        RecordIndex(first),
+        first,
         heads,
         start,
         end,

@@ -1,2 +1,2 @@
--- Laws of ten lent fields.
+-- Laws of eleven lent fields.
 pub mod Sized

@@ -1,11 +1,12 @@
--- Ten lent fields: what a kind and three numbers ask of them, and whether they are a sound state. n is the number of records. Assumes nothing.
+-- Eleven lent fields: what a kind and three numbers ask of them, and whether they are a sound account. n is the number of records. Assumes nothing.
 use Prim.Native.Nat.{ℕ}
 use mathlib.Core.Bool.{Bool, cond, _&&_}
 use lib.Dec.{eqb}
 use lib.ListN.{length}
 use Rattle.rules.specs.Rules.{sizeLists}
 use Rattle.pool_state.specs.declared.MemoryAllocator.{MemoryAllocator}
-use Rattle.check_state.specs.IsSound.{isSound}
+use Rattle.account_state.specs.Account.{isSound}
+use Rattle.account_state.specs.declared.Account.{Account}
 use Rattle.calls.specs.declared.Request.the-variants.{Allocate, Free}
 use Rattle.pages.specs.Pages.{bytesOf, raised, freedBytes}
 use Rattle.batch.specs.InWords.{askedOf}
@@ -25,5 +26,5 @@ isSized n s =
     eqb (length (s .«free_list»)) sizeLists && (eqb (length (s .start)) n && (eqb (length (s .end)) n && (eqb (length (s .enabled)) n
     && (eqb (length (s .previous)) n && (eqb (length (s .next)) n && (eqb (length (s .«list_prev»)) n && eqb (length (s .«list_next»)) n))))))
 
-abbrev pub soundHere : ℕ → MemoryAllocator → Bool
-soundHere n s = isSized n s && isSound n s
+abbrev pub soundHere : ℕ → Account → Bool
+soundHere n a = isSized n (a .ranges) && isSound n a

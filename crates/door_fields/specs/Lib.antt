@@ -1,2 +1,2 @@
--- What the contracts of ten lent fields cite.
+-- What the contracts of eleven lent fields cite.
 pub mod Fields

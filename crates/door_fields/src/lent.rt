@@ -1,4 +1,5 @@
-// The check of ten lent fields.
+// The check of eleven lent fields.
+use account_state::is_low_sound;
 use check_state::is_sound_in;
 use pool_state::LISTS;
 use pool_state::POOL;
@@ -7,6 +8,7 @@ ghost use mathlib.Core.Path.{_≡_};
 ghost use Rattle.pool_state.specs.Lent.{was};
 ghost use Rattle.pool_state.specs.Shown.{pool};
 ghost use Rattle.pool_state.specs.State.{arrays};
+ghost use Rattle.account_state.specs.Account.{account, isSound};
 ghost use Rattle.door_fields.specs.Fields.{isSized, soundHere};
 
 // Whether the arrays have as many places as their types say. They do, and the compiler leaves the question out; but of an array behind a
@@ -47,7 +49,9 @@ fn is_sized(
     lnext.len() == POOL
 }
 
-pub fn is_sound_lent(
+// The ranges, then the figure beside their total.
+pub fn is_sound_account(
+    lowest: u64,
     total: u64,
     first: u16,
     heads: &[u16; LISTS],
@@ -59,12 +63,45 @@ pub fn is_sound_lent(
     lprev: &[u16; POOL],
     lnext: &[u16; POOL],
 ) -> bool
-    ensures { λ r. ⌜ r ≡ soundHere pool (arrays total first (was heads) (was start) (was end) (was enabled) (was previous) (was next) (was lprev) (was lnext)) ⌝ }
+    ensures { λ r. ⌜ r ≡ isSound pool (account (arrays total first (was heads) (was start) (was end) (was enabled) (was previous) (was next) (was lprev) (was lnext)) lowest) ⌝ }
+{
+    if is_sound_in(
+        total,
+        RecordIndex(first),
+        heads,
+        start,
+        end,
+        enabled,
+        previous,
+        next,
+        lprev,
+        lnext,
+    ) {
+        return is_low_sound(total, lowest);
+    }
+    false
+}
+
+pub fn is_sound_lent(
+    lowest: u64,
+    total: u64,
+    first: u16,
+    heads: &[u16; LISTS],
+    start: &[u64; POOL],
+    end: &[u64; POOL],
+    enabled: &[bool; POOL],
+    previous: &[u16; POOL],
+    next: &[u16; POOL],
+    lprev: &[u16; POOL],
+    lnext: &[u16; POOL],
+) -> bool
+    ensures { λ r. ⌜ r ≡ soundHere pool (account (arrays total first (was heads) (was start) (was end) (was enabled) (was previous) (was next) (was lprev) (was lnext)) lowest) ⌝ }
 {
     if is_sized(heads, start, end, enabled, previous, next, lprev, lnext) {
-        return is_sound_in(
+        return is_sound_account(
+            lowest,
             total,
-            RecordIndex(first),
+            first,
             heads,
             start,
             end,

@@ -1,24 +1,26 @@
-// A state of one's own, as ten fields in the caller's memory that are lent one by one: a new one, its check, and the kinds of call on it.
-use check_state::is_sound_in;
+// A state of one's own, as eleven fields in the caller's memory that are lent one by one: the lowest figure, and the ten of the ranges. A new one, its
+// check, and the kinds of call on it.
+use account_state::NEVER;
 use pool_state::LISTS;
 use pool_state::NONE;
 use pool_state::POOL;
-use pool_state::RecordIndex;
 ghost use mathlib.Core.Path.{_≡_};
-ghost use Rattle.rules.specs.Rules.{empty};
-ghost use Rattle.check_state.specs.IsSound.{isSound};
-ghost use Rattle.pool_state.specs.Lent.{was, turns};
+ghost use Rattle.account_state.specs.Account.{account, opened, isSound};
+ghost use Rattle.account_state.specs.Lent.{turnsEleven};
+ghost use Rattle.pool_state.specs.Lent.{was};
 ghost use Rattle.pool_state.specs.Shown.{pool};
-ghost use Rattle.pool_state.specs.State.{arrays, stateOf};
+ghost use Rattle.pool_state.specs.State.{arrays};
 
 mod kinds;
 mod lent;
 
 pub use kinds::in_bytes;
+pub use lent::is_sound_account;
 pub use lent::is_sound_lent;
 
-// The fields of the empty state, over whatever is there.
+// The fields of the account of an empty allocator, over whatever is there.
 pub fn clear(
+    lowest: &mut u64,
     total: &mut u64,
     first: &mut u16,
     heads: &mut [u16; LISTS],
@@ -30,8 +32,9 @@ pub fn clear(
     lprev: &mut [u16; POOL],
     lnext: &mut [u16; POOL],
 )
-    ensures { λ _. ⌜ turns (λ s s′. s′ ≡ stateOf pool empty) total first heads start end enabled previous next lprev lnext ⌝ }
+    ensures { λ _. ⌜ turnsEleven (λ a a′. a′ ≡ opened pool) lowest total first heads start end enabled previous next lprev lnext ⌝ }
 {
+    *lowest = NEVER;
     *total = 0;
     *first = NONE;
     *heads = [NONE; LISTS];
@@ -47,6 +50,7 @@ pub fn clear(
 // The empty allocator, over whatever is there.
 #[no_mangle]
 pub extern "C" fn cinghjalofa_fields_new(
+    lowest: &mut u64,
     total: &mut u64,
     first: &mut u16,
     heads: &mut [u16; LISTS],
@@ -58,9 +62,10 @@ pub extern "C" fn cinghjalofa_fields_new(
     lprev: &mut [u16; POOL],
     lnext: &mut [u16; POOL],
 )
-    ensures { λ _. ⌜ turns (λ s s′. s′ ≡ stateOf pool empty) total first heads start end enabled previous next lprev lnext ⌝ }
+    ensures { λ _. ⌜ turnsEleven (λ a a′. a′ ≡ opened pool) lowest total first heads start end enabled previous next lprev lnext ⌝ }
 {
     clear(
+        lowest,
         total,
         first,
         heads,
@@ -77,6 +82,7 @@ pub extern "C" fn cinghjalofa_fields_new(
 // Whether the fields are a sound state.
 #[no_mangle]
 pub extern "C" fn cinghjalofa_fields_are_sound(
+    lowest: u64,
     total: u64,
     first: u16,
     heads: &[u16; LISTS],
@@ -88,11 +94,12 @@ pub extern "C" fn cinghjalofa_fields_are_sound(
     lprev: &[u16; POOL],
     lnext: &[u16; POOL],
 ) -> bool
-    ensures { λ r. ⌜ r ≡ isSound pool (arrays total first (was heads) (was start) (was end) (was enabled) (was previous) (was next) (was lprev) (was lnext)) ⌝ }
+    ensures { λ r. ⌜ r ≡ isSound pool (account (arrays total first (was heads) (was start) (was end) (was enabled) (was previous) (was next) (was lprev) (was lnext)) lowest) ⌝ }
 {
-    is_sound_in(
+    is_sound_account(
+        lowest,
         total,
-        RecordIndex(first),
+        first,
         heads,
         start,
         end,

@@ -1,10 +1,10 @@
-// A state of one's own, ten lent fields: a list of calls on it, an image into it, and its image. The fields are lent on as they are: no array
+// A state of one's own, eleven lent fields: a list of calls on it, an image into it, and its image. The fields are lent on as they are: no array
 // is copied.
 use batch::list_fits;
 use batch::serve_list_in;
 use calls::INVALID_ENTRY;
-use check_state::is_sound_in;
 use door_fields::clear;
+use door_fields::is_sound_account;
 use door_fields::is_sound_lent;
 use image_parts::layout::IMAGE;
 use image_reading::read_current;
@@ -16,9 +16,11 @@ use pool_state::RecordIndex;
 ghost use mathlib.Core.Path.{_≡_};
 ghost use Rattle.image_parts.specs.Layout.{current};
 ghost use Rattle.image_reading.specs.Reading.{readable};
-ghost use Rattle.pool_state.specs.Lent.{was, is, turns};
+ghost use Rattle.pool_state.specs.Lent.{was, is};
 ghost use Rattle.pool_state.specs.Shown.{pool};
 ghost use Rattle.pool_state.specs.State.{arrays};
+ghost use Rattle.account_state.specs.Account.{account};
+ghost use Rattle.account_state.specs.Lent.{turnsEleven};
 ghost use Rattle.door_lists.specs.Lists.{Lists, Imports, Exports};
 
 const INVALID_REQUEST: i64 = -4;
@@ -26,6 +28,7 @@ const INVALID_REQUEST: i64 = -4;
 // A list of calls, four words each, whose signed answers go into the places of `answers`; 0 where the list was served.
 #[no_mangle]
 pub extern "C" fn cinghjalofa_fields_batch(
+    lowest: &mut u64,
     total: &mut u64,
     first: &mut u16,
     heads: &mut [u16; LISTS],
@@ -39,9 +42,10 @@ pub extern "C" fn cinghjalofa_fields_batch(
     calls: &[u64],
     answers: &mut [i64],
 ) -> i64
-    ensures { λ r. ⌜ turns (λ s s′. Lists pool s (was calls) (was answers) r s′ (is answers)) total first heads start end enabled previous next lprev lnext ⌝ }
+    ensures { λ r. ⌜ turnsEleven (λ a a′. Lists pool a (was calls) (was answers) r a′ (is answers)) lowest total first heads start end enabled previous next lprev lnext ⌝ }
 {
     if is_sound_lent(
+        *lowest,
         *total,
         *first,
         heads,
@@ -55,6 +59,7 @@ pub extern "C" fn cinghjalofa_fields_batch(
     ) {
         if list_fits(calls, answers.len()) {
             serve_list_in(
+                lowest,
                 total,
                 first,
                 heads,
@@ -75,10 +80,11 @@ pub extern "C" fn cinghjalofa_fields_batch(
     INVALID_ENTRY
 }
 
-// Whether the bytes are the image of a sound state: read into ten fields that are given up again.
+// Whether the bytes are the image of a sound account: read into eleven fields that are given up again.
 fn is_image(image: &[u8]) -> bool
     ensures { λ r. ⌜ r ≡ readable current (was image) ⌝ }
 {
+    let mut lowest: u64 = 0;
     let mut total: u64 = 0;
     let mut first: u16 = NONE;
     let mut heads = [NONE; LISTS];
@@ -91,6 +97,7 @@ fn is_image(image: &[u8]) -> bool
     let mut lnext = [NONE; POOL];
     read_current(
         image,
+        &mut lowest,
         &mut total,
         &mut first,
         &mut heads,
@@ -104,9 +111,10 @@ fn is_image(image: &[u8]) -> bool
     )
 }
 
-// The state of an image, over whatever is there; -2, and nothing is written, where the bytes are no image of a sound state.
+// The account of an image, over whatever is there; -2, and nothing is written, where the bytes are no image of a sound one.
 #[no_mangle]
 pub extern "C" fn cinghjalofa_fields_import(
+    lowest: &mut u64,
     total: &mut u64,
     first: &mut u16,
     heads: &mut [u16; LISTS],
@@ -119,11 +127,12 @@ pub extern "C" fn cinghjalofa_fields_import(
     lnext: &mut [u16; POOL],
     image: &[u8],
 ) -> i64
-    ensures { λ r. ⌜ turns (λ s s′. Imports current (was image) r s s′) total first heads start end enabled previous next lprev lnext ⌝ }
+    ensures { λ r. ⌜ turnsEleven (λ a a′. Imports current (was image) r a a′) lowest total first heads start end enabled previous next lprev lnext ⌝ }
 {
     let readable = is_image(image);
     if readable {
         clear(
+            lowest,
             total,
             first,
             heads,
@@ -137,6 +146,7 @@ pub extern "C" fn cinghjalofa_fields_import(
         );
         let _again = read_current(
             image,
+            lowest,
             total,
             first,
             heads,
@@ -153,9 +163,10 @@ pub extern "C" fn cinghjalofa_fields_import(
     INVALID_ENTRY
 }
 
-// The image of the fields, over a slice of its length; -2, and no byte is written, where they are no sound state or the length is another.
+// The image of the fields, over a slice of its length; -2, and no byte is written, where they are no sound account or the length is another.
 #[no_mangle]
 pub extern "C" fn cinghjalofa_fields_export(
+    lowest: u64,
     total: u64,
     first: u16,
     heads: &[u16; LISTS],
@@ -168,14 +179,15 @@ pub extern "C" fn cinghjalofa_fields_export(
     lnext: &[u16; POOL],
     image: &mut [u8],
 ) -> i64
-    ensures { λ r. ⌜ Exports current (arrays total first (was heads) (was start) (was end) (was enabled) (was previous) (was next) (was lprev) (was lnext)) (was image) r (is image) ⌝ }
+    ensures { λ r. ⌜ Exports current (account (arrays total first (was heads) (was start) (was end) (was enabled) (was previous) (was next) (was lprev) (was lnext)) lowest) (was image) r (is image) ⌝ }
 {
     if image.len() != IMAGE {
         return INVALID_ENTRY;
     }
-    if is_sound_in(
+    if is_sound_account(
+        lowest,
         total,
-        RecordIndex(first),
+        first,
         heads,
         start,
         end,
@@ -188,6 +200,7 @@ pub extern "C" fn cinghjalofa_fields_export(
         write_fields(
             image,
             true,
+            lowest,
             total,
             RecordIndex(first),
             heads,

@@ -5,22 +5,22 @@ use mathlib.Core.Path.{_≡_}
 use lib.IntN.{ℤ}
 use Rattle.rules.specs.Rules as rules
 use Rattle.rules.specs.Rules.{Book}
-use Rattle.pool_state.specs.Lent.{OfLent, turns}
-use Rattle.pool_state.specs.declared.MemoryAllocator.{MemoryAllocator}
 use Rattle.calls.specs.Calls.{signedOf}
 use Rattle.calls.specs.declared.Answer.the-variants.{InvalidEntry}
-use Rattle.calls.specs.declared.Outcome.{Outcome}
-use Rattle.core_serve.specs.Made.{judged}
+use Rattle.account_state.specs.Lent.{OfLentEleven, turnsEleven}
+use Rattle.account_state.specs.declared.Account.{Account}
+use Rattle.account_state.specs.declared.Entered.{Entered}
+use Rattle.account_calls.specs.Made.{judged}
 use Rattle.door_fields.specs.Fields.{isSized}
 
--- what the call answers and leaves is what the call on a state by value does (`Made.antt`)
-unfoldable pub judgedHere : ℕ → (Book → rules.Answer) → MemoryAllocator → Outcome
-judgedHere n rule s = cond (isSized n s) (judged n rule s) (record { answer = InvalidEntry; state = s })
+-- what the call answers and leaves is what the call on an account by value does (`Made.antt` of account_calls)
+unfoldable pub judgedHere : ℕ → (Book → rules.Answer) → Account → Entered
+judgedHere n rule a = cond (isSized n (a .ranges)) (judged n rule a) (record { answer = InvalidEntry; state = a })
 
--- r is the signed number of its answer, and the lent fields hold the state
-pub record Judged (n : ℕ) (rule : Book → rules.Answer) (r : ℤ) (s s′ : MemoryAllocator) : Type 0 where
-  pub number : r ≡ signedOf (judgedHere n rule s .answer)
-  pub state : s′ ≡ judgedHere n rule s .state
+-- r is the signed number of its answer, and the lent fields hold the account
+pub record Judged (n : ℕ) (rule : Book → rules.Answer) (r : ℤ) (a a′ : Account) : Type 0 where
+  pub number : r ≡ signedOf (judgedHere n rule a .answer)
+  pub state : a′ ≡ judgedHere n rule a .state
 
-abbrev pub Judges : ℕ → (Book → rules.Answer) → ℤ → OfLent
-Judges n rule r = turns (Judged n rule r)
+abbrev pub Judges : ℕ → (Book → rules.Answer) → ℤ → OfLentEleven
+Judges n rule r = turnsEleven (Judged n rule r)

@@ -2,7 +2,7 @@
 -- allocator, whose image stands in this one. Assumes nothing.
 use Prim.Native.Nat.{ℕ}
 use mathlib.Core.Bool.{Bool, true, cond, _&&_}
-use mathlib.Core.List.{List}
+use mathlib.Core.List.{List, []}
 use mathlib.Core.Path.{_≡_}
 use lib.Dec.{eqb}
 use lib.IntN.{ℤ, pos, negℤ}
@@ -40,9 +40,9 @@ finished f w l = returned (signed (w .number) (w .address)) (cond (eqb (w .numbe
 unfoldable pub over : Layout → Bool → Answer (List ℕ) → List ℕ → Returned
 over f b w l = cond b (finished f w l) (returned (signedOf InvalidEntry) l)
 
--- a call of the board or of a holder: the allocator below answers as its C calls do
+-- a call of the board or of a holder: the allocator below answers as its C calls do. (What it begins with is not looked at.)
 unfoldable pub callOver : Layout → Call → List ℕ → Returned
-callOver f c l = over f (serves f l) (step (images f (memoryIn l)) c (holdingIn l)) l
+callOver f c l = over f (serves f l) (step (images f []) c (holdingIn l)) l
 
 -- nothing free and nothing held, over whatever is there, if it has the length
 unfoldable pub newOver : Layout → List ℕ → Returned

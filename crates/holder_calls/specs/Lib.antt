@@ -1,2 +1,3 @@
--- What the contracts of the register's C calls cite.
+-- What the contracts of the register's C calls cite, and demands 2 and 3 of them.
 pub mod Calls
+pub mod Doors

@@ -1,4 +1,5 @@
 // The calls of the register as C has them: over a lent image, with one signed number as the answer.
+use account_calls::new;
 use calls::INVALID_ENTRY;
 use holder_entries::unused_entry;
 use holder_image::entries::write_front;
@@ -8,11 +9,10 @@ use holder_rules::ENTRIES;
 use holder_rules::Holder;
 use holder_rules::Register;
 use holder_serve::HolderRequest;
-use image::write_state;
+use image::write_account;
 use memory_allocator::Request;
 use over::serve_over;
 use pool_state::Address;
-use pool_state::new;
 ghost use mathlib.Core.Path.{_≡_};
 ghost use Rattle.rules.specs.Rules.{Free, Allocate, Reserve};
 ghost use Rattle.image_parts.specs.Layout.{current};
@@ -46,7 +46,7 @@ pub extern "C" fn cinghjalofa_holders_new(image: &mut [u8]) -> i64
     if image.len() != HOLDERS_IMAGE {
         return INVALID_ENTRY;
     }
-    write_state(new(), &mut image[MEMORY..]);
+    write_account(new(), &mut image[MEMORY..]);
     write_front(image, no_entries());
     BEGUN
 }
@@ -88,7 +88,10 @@ pub extern "C" fn cinghjalofa_holders_reserve_memory(
 {
     serve_over(
         image,
-        HolderRequest::By(Holder(holder), Request::Reserve(Address(start), size, order)),
+        HolderRequest::By(
+            Holder(holder),
+            Request::Reserve(Address(start), size, order),
+        ),
     )
 }
 

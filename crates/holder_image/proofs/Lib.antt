@@ -1,2 +1,3 @@
 -- Parts of the register's image.
 pub mod Parts
+pub mod Rounds

@@ -87,7 +87,5 @@ pub fn read_register(image: &[u8]) -> Register
         entries[i] = e;
         i += 1;
     }
-    Register {
-        entries: entries,
-    }
+    Register { entries: entries }
 }

@@ -49,7 +49,7 @@ all-blank (suc m) x (inl d) = d
 all-blank (suc m) x (inr h) = all-blank m x h
 
 module _ {n : ℕ} {e : Engine} (f : Obeys n e) where
-  nothing-kept : (m : ℕ) → Kept f (nothing e m)
+  pub nothing-kept : (m : ℕ) → Kept f (nothing e m)
   nothing-kept m = record {
     book = empty;
     good = empty-sound n;

@@ -1,12 +1,16 @@
--- The numbers and links of a sound state fit their bytes. Assumes nothing.
+-- The numbers and links of a sound account fit their bytes. Assumes nothing.
 use Prim.Native.Nat.{ℕ, _^_, _<_, _≤_}
 use native.Mathlib.Omega.{arith}
-use mathlib.Core.Bool.{Bool, true, false}
-use mathlib.Core.Path.{_≡_, refl}
+use mathlib.Core.Bool.{Bool, true, false, _&&_, _||_}
+use mathlib.Core.Path.{_≡_, refl, sym, _∙_}
+use lib.Dec.{leb, eqb}
 use lib.ListN.{getD}
+use borrow.Author.Tests.{leb-true, eqb-true}
 use Rattle.linked_lists.specs.Links.{none}
 use Rattle.rules.specs.Rules.{sizeLists}
+use Rattle.linked_lists.proofs.Laws.{true≢false}
 use Rattle.rules_laws.proofs.Bytes.{total-le}
+use Rattle.rules_lowest.specs.Lowest.{never, lowSound}
 use Rattle.pool_state.specs.Sound.{bookOf, SoundState}
 use Rattle.pool_state.proofs.Book.{sound-holds}
 use Rattle.pool_state.specs.declared.MemoryAllocator.{MemoryAllocator}
@@ -46,3 +50,13 @@ sound-fits n small s h =
       end = λ i b. range-fits n s p i b .1;
       links = p .links;
     }
+
+-- a figure that may stand beside a total
+pub low-fits : (total low : ℕ) → total < 256 ^ word → lowSound total low ≡ true → low < 256 ^ word
+low-fits total low small = go (leb low total) (eqb total 0) (eqb low never) refl refl
+  where
+    go : (p q r : Bool) → leb low total ≡ p → eqb low never ≡ r → (p || (q && r)) ≡ true → low < 256 ^ word
+    go true q r e f h = let b = leb-true low total e in omega arith
+    go false true true e f h = let b = eqb-true low never f in omega arith
+    go false true false e f h = true≢false (sym h)
+    go false false r e f h = true≢false (sym h)

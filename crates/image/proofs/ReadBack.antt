@@ -1,7 +1,7 @@
--- What is read from the image of a state whose numbers and links fit is that state. Assumes nothing.
+-- What is read from the image of an account whose numbers and links fit is what the layout tells of it. Assumes nothing.
 use mathlib.Core.Path.{_≡_, refl, sym, _∙_, ap, subst}
 use mathlib.Core.Bool.{Bool, true, false}
-use mathlib.Core.Logic.{inl, inr}
+use mathlib.Core.Logic.{inl, inr, _≢_, ⊎-elim}
 use mathlib.Core.List.{List, [], _∷_, _++_, append-assoc, append-nil}
 use Prim.Native.Nat.{ℕ, zero, suc, _+_, _*_, _^_, _≤_, _<_}
 use native.Mathlib.Nat.{add-zero, one-le-pow, mul-add, mul-one, mul-le-mul-left}
@@ -10,21 +10,25 @@ use lib.Dec.{ltb, eqb, ltb→lt}
 use lib.ListN.{length, take, getD, length-append}
 use lib.Seq.{take-all}
 use borrow.Author.Tests.{lt-ltb, le-ltb, eq-eqb, ne-eqb, le-leb}
+use Rattle.linked_lists.proofs.Laws.{same?}
 use Rattle.rules_laws.proofs.Lists.{if}
 use Rattle.rules.specs.Rules.{sizeLists}
 use Rattle.pool_state.specs.State.{arrays}
 use Rattle.pool_state.specs.declared.MemoryAllocator.{MemoryAllocator}
 use Rattle.pool_state.proofs.States.{by-tab}
+use Rattle.account_state.specs.Account.{account}
+use Rattle.account_state.specs.declared.Account.{Account}
 use Rattle.check_meaning.specs.Paragraph.{Link}
 use Rattle.bytes_be.specs.Numbers.{be, number}
 use Rattle.bytes_be.proofs.Laws.{length-be, number-be}
-use Rattle.image_parts.specs.Layout.{Layout, Lawful, word, noLink, lengthAt, lengthSize, totalAt, firstAt, headsAt, recordsAt, endAt, enabledAt, linksAt, recordSize, imageSize, restSize}
+use Rattle.image_parts.specs.Layout.{Layout, Lawful, word, noLink, lengthAt, lengthSize, totalAt, firstAt, headsAt, lowAt, recordsAt, endAt, enabledAt, linksAt, recordSize, imageSize, restSize}
 use Rattle.image_parts.specs.Written.{joined, linkNumber, flagNumber, linkBytes, recordBytes, headBytes}
-use Rattle.image_writing.specs.Writing.{entryAt, imageOf}
+use Rattle.image_writing.specs.Writing.{entryAt, headOf, imageOf}
 use Rattle.image_parts.specs.Read.{numberIn, linkOf, numbersIn, linksIn, flagsIn, bits}
-use Rattle.image_reading.specs.Reading.{stateIn}
+use Rattle.image_reading.specs.Reading.{stateIn, lowIn, accountIn}
+use Rattle.image.specs.Reading.{toldBy}
 use Rattle.image_parts.specs.declared.records.MemoryEntry.{MemoryEntry}
-use Rattle.image_parts.proofs.Parts.{length-joined, length-record, length-head, record-room}
+use Rattle.image_parts.proofs.Parts.{length-joined, length-links, length-record, length-head, record-room}
 use Rattle.image_parts.proofs.Places.{number-in, number-at, one-byte}
 use Rattle.image.proofs.Ways.{Frame}
 use Rattle.image.proofs.Fitting.{Fits}
@@ -94,9 +98,12 @@ module _ (f : Layout) (lawful : Lawful f) where
         let c : recordBytes f e ≡ p ++ (linkBytes f links ++ []) = simp (append-assoc, append-nil) in
         rw c (links-round p [] links linksAt k l b h)
 
-  -- ---- a state
+  -- ---- an account
 
-  module _ (s : MemoryAllocator) (fit : Fits (f .records) s) where
+  module _ (a : Account) (fit : Fits (f .records) (a .ranges)) (low-fit : a .lowest < 256 ^ word) where
+    abbrev s : MemoryAllocator
+    s = a .ranges
+
     abbrev piece : ℕ → List ℕ
     piece i = recordBytes f (entryAt s i)
 
@@ -116,61 +123,61 @@ module _ (f : Layout) (lawful : Lawful f) where
     heads = linkBytes f (s .«free_list»)
 
     abbrev low : List ℕ
-    low = be (f .low) 0
+    low = be (f .low) (a .lowest)
 
     top-length : length top ≡ totalAt
     top-length = simp (length-append, length-be)
 
-    head-length : length (headBytes f (s .«free_size») (s .«first_entry» .0) (s .«free_list») 0) ≡ recordsAt f
-    head-length = length-head f _ _ (s .«free_list») 0 sizeLists (fit .sized .heads)
+    head-length : length (headOf f a) ≡ recordsAt f
+    head-length = length-head f _ _ (s .«free_list») (a .lowest) sizeLists (fit .sized .heads)
 
-    image-length : length (imageOf f s) ≡ imageSize f
+    image-length : length (imageOf f a) ≡ imageSize f
     unfolding imageOf
-    image-length = length-append (headBytes f (s .«free_size») (s .«first_entry» .0) (s .«free_list») 0) rest ∙ (let h = head-length in let r = length-joined (recordSize f) piece (λ i. length-record f _) (f .records) 0 in omega arith)
+    image-length = length-append (headOf f a) rest ∙ (let h = head-length in let r = length-joined (recordSize f) piece (λ i. length-record f _) (f .records) 0 in omega arith)
 
-    total-back : numberIn (imageOf f s) totalAt word ≡ s .«free_size»
+    total-back : numberIn (imageOf f a) totalAt word ≡ s .«free_size»
     unfolding imageOf headBytes
     total-back =
-        let c : imageOf f s ≡ top ++ (total ++ ((first ++ (heads ++ low)) ++ rest)) = simp append-assoc in
+        let c : imageOf f a ≡ top ++ (total ++ ((first ++ (heads ++ low)) ++ rest)) = simp append-assoc in
         rw c (number-in top total _ totalAt word top-length (length-be word _) ∙ number-be word _ (fit .total))
 
-    first-back : linkOf f (numberIn (imageOf f s) firstAt (f .link)) ≡ s .«first_entry» .0
+    first-back : linkOf f (numberIn (imageOf f a) firstAt (f .link)) ≡ s .«first_entry» .0
     unfolding imageOf headBytes
     first-back =
-        let c : imageOf f s ≡ (top ++ total) ++ (first ++ (heads ++ (low ++ rest))) = simp append-assoc in
+        let c : imageOf f a ≡ (top ++ total) ++ (first ++ (heads ++ (low ++ rest))) = simp append-assoc in
         let l : length (top ++ total) ≡ firstAt = simp (length-append, length-be) in
         rw c (ap (linkOf f) (number-in (top ++ total) first _ firstAt (f .link) l (length-be (f .link) _) ∙ number-be (f .link) _ (link-below _)) ∙ link-round _ (fit .first))
 
-    heads-back : (k : ℕ) → k < sizeLists → linkOf f (numberIn (imageOf f s) (headsAt f + f .link * k) (f .link)) ≡ getD (s .«free_list») k 0
+    heads-back : (k : ℕ) → k < sizeLists → linkOf f (numberIn (imageOf f a) (headsAt f + f .link * k) (f .link)) ≡ getD (s .«free_list») k 0
     unfolding imageOf headBytes
     heads-back k b =
-        let c : imageOf f s ≡ ((top ++ total) ++ first) ++ (heads ++ (low ++ rest)) = simp append-assoc in
+        let c : imageOf f a ≡ ((top ++ total) ++ first) ++ (heads ++ (low ++ rest)) = simp append-assoc in
         let l : length ((top ++ total) ++ first) ≡ headsAt f = simp (length-append, length-be) in
         rw c (links-round ((top ++ total) ++ first) (low ++ rest) (s .«free_list») (headsAt f) k l (let z = fit .sized .heads in omega arith) (fit .heads k b))
 
-    field-back : (o k i : ℕ) → o + k ≤ recordSize f → i < f .records → numberIn (imageOf f s) (recordsAt f + o + recordSize f * i) k ≡ numberIn (piece i) o k
+    field-back : (o k i : ℕ) → o + k ≤ recordSize f → i < f .records → numberIn (imageOf f a) (recordsAt f + o + recordSize f * i) k ≡ numberIn (piece i) o k
     unfolding imageOf
     field-back o k i h b =
-        let head = headBytes f (s .«free_size») (s .«first_entry» .0) (s .«free_list») 0 in
-        let c : imageOf f s ≡ head ++ (rest ++ []) = simp append-nil in
+        let head = headOf f a in
+        let c : imageOf f a ≡ head ++ (rest ++ []) = simp append-nil in
         rw c (number-at piece head [] (recordsAt f) (recordSize f) (f .records) i head-length (λ j. length-record f _) b o k h)
 
-    flag-back : (i : ℕ) → i < f .records → getD (imageOf f s) (recordsAt f + enabledAt + recordSize f * i) 0 ≡ flagNumber (getD (s .enabled) i false)
+    flag-back : (i : ℕ) → i < f .records → getD (imageOf f a) (recordsAt f + enabledAt + recordSize f * i) 0 ≡ flagNumber (getD (s .enabled) i false)
     flag-back i b =
         let room = record-room f enabledAt 1 i (omega arith) b in
         let l = image-length in
-        one-byte (imageOf f s) _ (omega arith) ∙ field-back enabledAt 1 i (omega arith) b ∙ record-flag (entryAt s i)
+        one-byte (imageOf f a) _ (omega arith) ∙ field-back enabledAt 1 i (omega arith) b ∙ record-flag (entryAt s i)
 
     -- the k-th of the four links
     links-back : (k : ℕ) → k < 4 → (xs : List ℕ) → length xs ≡ f .records → ((i : ℕ) → i < f .records → Link (f .records) (getD xs i 0)) → ((i : ℕ) → getD xs i 0 ≡ getD (entryAt s i .previous .0 ∷ entryAt s i .next .0 ∷ entryAt s i .«list_prev» .0 ∷ entryAt s i .«list_next» .0 ∷ []) k 0)
-        → linksIn f (imageOf f s) (recordsAt f + (linksAt + f .link * k)) (recordSize f) (f .records) ≡ xs
+        → linksIn f (imageOf f a) (recordsAt f + (linksAt + f .link * k)) (recordSize f) (f .records) ≡ xs
     unfolding linksIn
     links-back k b xs len h e =
         sym (by-tab 0 (f .records) xs _ len (λ i bi.
         let w : linksAt + f .link * k + f .link ≤ recordSize f = let p : f .link * (k + 1) ≤ f .link * 4 = mul-le-mul-left (f .link) (omega arith) in let q = mul-add (f .link) k 1 in let r = mul-one (f .link) in omega arith in
         sym (ap (linkOf f) (field-back (linksAt + f .link * k) (f .link) i w bi) ∙ record-link (entryAt s i) k b (subst (λ (r : ℕ). Link (f .records) r) (e i) (h i bi)) ∙ sym (e i))))
 
-    pub state-back : stateIn f (imageOf f s) ≡ s
+    state-back : stateIn f (imageOf f a) ≡ s
     unfolding stateIn numbersIn linksIn flagsIn
     state-back =
         let n = f .records in
@@ -184,26 +191,43 @@ module _ (f : Layout) (lawful : Lawful f) where
         let e₀ = links-back 3 (omega arith) (s .«list_next») (fit .sized .list-next) (λ i bi. fit .links i bi .list-next) (λ i. refl) in
         (λ z. arrays (total-back z) (first-back z) (e₃ z) (e₄ z) (e₅ z) (e₆ z) (e₇ z) (e₈ z) (e₉ z) (e₀ z))
 
+    -- a figure that has bytes of its own
+    low-told : f .low ≢ 0 → numberIn (imageOf f a) (lowAt f) word ≡ a .lowest
+    unfolding imageOf headBytes
+    low-told d =
+        let p = ((top ++ total) ++ first) ++ heads in
+        let whole = lawful .whole-low d in
+        let c : imageOf f a ≡ p ++ (low ++ rest) = simp append-assoc in
+        let l : length p ≡ lowAt f = simp (length-append, length-be, length-links, fit .sized .heads) (omega arith) in
+        rw c (number-in p low rest (lowAt f) word l (length-be (f .low) _ ∙ whole) ∙ number-be (f .low) (a .lowest) (subst (λ (k : ℕ). a .lowest < 256 ^ k) (sym whole) low-fit))
+
+    low-back : lowIn f (imageOf f a) ≡ toldBy f a .lowest
+    low-back =
+        ⊎-elim (λ (e : f .low ≡ 0). rw (eq-eqb (f .low) 0 e) total-back) (λ d. rw (ne-eqb (f .low) 0 d) (low-told d)) (same? (f .low) 0)
+
+    pub account-back : accountIn f (imageOf f a) ≡ toldBy f a
+    account-back = (λ z. account (state-back z) (low-back z))
+
     -- ---- the frame
 
-    bits-back : (m i : ℕ) → i + m ≤ f .records → bits (imageOf f s) (recordsAt f + enabledAt) (recordSize f) m i ≡ true
+    bits-back : (m i : ℕ) → i + m ≤ f .records → bits (imageOf f a) (recordsAt f + enabledAt) (recordSize f) m i ≡ true
     unfolding bits
     bits-back zero i h = refl
     bits-back (suc m) i h =
-        let small : getD (imageOf f s) (recordsAt f + enabledAt + recordSize f * i) 0 ≤ 1 = rw (flag-back i (omega arith)) (if (getD (s .enabled) i false) (λ x. x ≤ 1) (λ t. omega arith) (λ t. omega arith)) in
+        let small : getD (imageOf f a) (recordsAt f + enabledAt + recordSize f * i) 0 ≤ 1 = rw (flag-back i (omega arith)) (if (getD (s .enabled) i false) (λ x. x ≤ 1) (λ t. omega arith) (λ t. omega arith)) in
         rw (le-leb _ 1 small) (bits-back m (suc i) (omega arith))
 
-    version-back : numberIn (imageOf f s) 0 lengthAt ≡ f .version
+    version-back : numberIn (imageOf f a) 0 lengthAt ≡ f .version
     unfolding imageOf headBytes
     version-back =
-        let c : imageOf f s ≡ [] ++ (be lengthAt (f .version) ++ (be lengthSize (restSize f) ++ ((total ++ (first ++ (heads ++ low))) ++ rest))) = simp append-assoc in
+        let c : imageOf f a ≡ [] ++ (be lengthAt (f .version) ++ (be lengthSize (restSize f) ++ ((total ++ (first ++ (heads ++ low))) ++ rest))) = simp append-assoc in
         rw c (number-in [] (be lengthAt (f .version)) _ 0 lengthAt refl (length-be lengthAt _) ∙ number-be lengthAt (f .version) (lawful .versions))
 
-    rest-back : numberIn (imageOf f s) lengthAt lengthSize ≡ restSize f
+    rest-back : numberIn (imageOf f a) lengthAt lengthSize ≡ restSize f
     unfolding imageOf headBytes
     rest-back =
-        let c : imageOf f s ≡ be lengthAt (f .version) ++ (be lengthSize (restSize f) ++ ((total ++ (first ++ (heads ++ low))) ++ rest)) = simp append-assoc in
+        let c : imageOf f a ≡ be lengthAt (f .version) ++ (be lengthSize (restSize f) ++ ((total ++ (first ++ (heads ++ low))) ++ rest)) = simp append-assoc in
         rw c (number-in (be lengthAt (f .version)) (be lengthSize (restSize f)) _ lengthAt lengthSize (length-be lengthAt _) (length-be lengthSize _) ∙ number-be lengthSize (restSize f) (lawful .rests))
 
-    pub frame-back : Frame f (imageOf f s)
+    pub frame-back : Frame f (imageOf f a)
     frame-back = record { sized = image-length; versions = version-back; rests = rest-back; flags = bits-back (f .records) 0 (omega arith) }

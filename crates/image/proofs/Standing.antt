@@ -11,7 +11,8 @@ use Rattle.pool_state.specs.Sound.{SoundState}
 use Rattle.pool_state.specs.declared.MemoryAllocator.{MemoryAllocator}
 use Rattle.pool_state.proofs.States.{at-tab}
 use Rattle.check_meaning.specs.Paragraph.{Fresh}
-use Rattle.check_meaning.proofs.Exact.{paragraph, passes-sound}
+use Rattle.check_meaning.proofs.Exact.{paragraph}
+use Rattle.account_state.proofs.Exact.{passes-sound}
 use Rattle.bytes_be.specs.Numbers.{Bytes}
 use Rattle.image_parts.specs.Layout.{Layout, Lawful, recordsAt, enabledAt, recordSize}
 use Rattle.image_parts.specs.Read.{flagsIn}
@@ -20,7 +21,7 @@ use Rattle.image_parts.specs.declared.records.MemoryEntry.{MemoryEntry}
 use Rattle.image_parts.proofs.Lawful.{small-pool}
 use Rattle.image_parts.proofs.Loops.{both}
 use Rattle.image_writing.specs.Writing.{entryAt, flagIn, Standing}
-use Rattle.image_reading.specs.Reading.{stateIn, framed, readable}
+use Rattle.image_reading.specs.Reading.{stateIn, accountIn, framed, readable}
 use Rattle.image_records.proofs.Decoding.{flag-here}
 use Rattle.image_reading.proofs.Whole.{state-sized}
 use Rattle.image.proofs.Ways.{framed-frame}
@@ -51,7 +52,7 @@ module _ (f : Layout) (lawful : Lawful f) (l : List ℕ) (bytes : Bytes l) (serv
   n = f .records
 
   held : (framed f l ≡ true) × SoundState n (stateIn f l)
-  held = let p = both (framed f l) _ serves in (p .0, passes-sound n (small-pool f lawful) (stateIn f l) (state-sized f l) (p .1))
+  held = let p = both (framed f l) _ serves in (p .0, passes-sound n (small-pool f lawful) (accountIn f l) (state-sized f l) (p .1) .ranges)
 
   fresh-in : (s : MemoryAllocator) → SoundState n s → (i : ℕ) → i < n → getD (s .enabled) i false ≡ false → Fresh s i
   fresh-in s sound i b off = paragraph n (small-pool f lawful) s .0 sound .unused i b off

@@ -10,58 +10,70 @@ use borrow.Author.Tests.{eq-eqb}
 use Rattle.linked_lists.specs.Links.{none}
 use Rattle.pool_state.specs.Shown.{pool}
 use Rattle.pool_state.specs.State.{stateOf}
-use Rattle.pool_state.specs.Sound.{bookOf, SoundState}
-use Rattle.pool_state.specs.declared.MemoryAllocator.{MemoryAllocator}
+use Rattle.pool_state.specs.Sound.{bookOf}
+use Rattle.rules.specs.Rules.{sum}
+use Rattle.rules_lowest.specs.Lowest.{lowSound}
+use Rattle.account_state.specs.Account.{account, SoundAccount}
+use Rattle.account_state.specs.declared.Account.{Account}
 use Rattle.pool_state.proofs.States.{state-holds}
-use Rattle.pool_state.proofs.Book.{book-back, holds-sound}
+use Rattle.pool_state.proofs.Book.{book-back, holds-sound, sound-holds}
 use Rattle.bytes_be.specs.Numbers.{Bytes}
-use Rattle.image_parts.specs.Layout.{Layout, Lawful, Housed, version1, current, layoutOf, lengthAt}
+use Rattle.image_parts.specs.Layout.{Layout, Lawful, Housed, version1, version2, current, layoutOf, lengthAt}
 use Rattle.image_parts.specs.Read.{numberIn}
-use Rattle.image_parts.proofs.Lawful.{small-pool, housed-of, lawful-current, lawful-version1}
+use Rattle.image_parts.proofs.Lawful.{small-pool, housed-of}
 use Rattle.image_writing.specs.Writing.{imageOf}
 use Rattle.image_reading.specs.Reading.{grown}
 use Rattle.image_reading.proofs.Grown.{wider}
 use Rattle.image.specs.Writing.{Image, numberOf}
-use Rattle.image.specs.Reading.{Handed, accepted, readingOf, layoutIn, readingAny}
+use Rattle.image.specs.Reading.{Handed, accepted, toldBy, readingOf, layoutIn, readingAny}
 use Rattle.image.specs.declared.ImageAnswer.the-variants.{Done, InvalidEntry}
-use Rattle.image.proofs.Fitting.{sound-fits}
-use Rattle.image.proofs.ReadBack.{frame-back}
-use Rattle.image.proofs.Rounds.{read-written, image-accepted, accepted-image, refused-exactly}
+use Rattle.image.proofs.Rounds.{told-sound, framed-back, read-written, image-accepted, accepted-image, refused-exactly}
 
--- ---- what grows keeps its chain and shelf, and stays sound
+-- ---- what grows keeps its chain, its shelf and its figure, and stays sound
 
-module _ (f : Layout) (housed : Housed f) (s : MemoryAllocator) (sound : SoundState (f .records) s) where
-  few : f .records ≤ none
+module _ (f : Layout) (housed : Housed f) (a : Account) (sound : SoundAccount (f .records) a) where
+  abbrev n : ℕ
+  n = f .records
+
+  few : n ≤ none
   few = small-pool f (housed .lawful)
 
-  pub grown-sound : SoundState pool (grown (f .records) pool s)
+  pub grown-sound : SoundAccount pool (grown n pool a)
+  unfolding stateOf
   grown-sound =
-      let b = bookOf (f .records) s in
-      holds-sound pool (omega arith) b (stateOf pool b) (state-holds pool b (wider (f .records) pool b (housed .room) (sound .book)))
+      let b = bookOf n (a .ranges) in
+      record {
+        ranges = holds-sound pool (omega arith) b (stateOf pool b) (state-holds pool b (wider n pool b (housed .room) (sound .ranges .book)));
+        low = ap (λ (t : ℕ). lowSound t (a .lowest)) (sym (sound-holds n (a .ranges) (sound .ranges) .counts)) ∙ sound .low;
+      }
 
-  pub grown-book : bookOf pool (grown (f .records) pool s) ≡ bookOf (f .records) s
-  grown-book = book-back pool (omega arith) (bookOf (f .records) s) (wider (f .records) pool (bookOf (f .records) s) (housed .room) (sound .book))
+  pub grown-book : bookOf pool (grown n pool a .ranges) ≡ bookOf n (a .ranges)
+  grown-book = book-back pool (omega arith) (bookOf n (a .ranges)) (wider n pool (bookOf n (a .ranges)) (housed .room) (sound .ranges .book))
 
   -- an image tells its own version
-  version-told : numberIn (imageOf f s) 0 lengthAt ≡ f .version
-  version-told = frame-back f (housed .lawful) s (sound-fits (f .records) few s sound) .versions
+  version-told : numberIn (imageOf f a) 0 lengthAt ≡ f .version
+  version-told = framed-back f (housed .lawful) a sound .versions
 
-  -- the image of a sound state of any version that is read, read: the state, with the records of now
-  pub read-any : layoutOf (f .version) ≡ f → readingAny (imageOf f s) ≡ accepted (grown (f .records) pool s)
+  -- the image of a sound account by any layout that is read, read: what it tells, with the records of now
+  pub read-any : layoutOf (f .version) ≡ f → readingAny (imageOf f a) ≡ accepted (grown n pool (toldBy f a))
   unfolding readingAny
   read-any e =
-      let same : layoutIn (imageOf f s) ≡ f = ap layoutOf version-told ∙ e in
-      rw (same, read-written f (housed .lawful) s sound)
+      let same : layoutIn (imageOf f a) ≡ f = ap layoutOf version-told ∙ e in
+      rw (same, read-written f (housed .lawful) a sound)
 
--- a state of now is as it was
-pub grown-same : (s : MemoryAllocator) → SoundState pool s → grown pool pool s ≡ s
-grown-same s sound = sound .state
+-- an account of now is as it was
+pub grown-same : (a : Account) → SoundAccount pool a → grown pool pool a ≡ a
+grown-same a sound = (λ z. account (sound .ranges .state z) (a .lowest))
 
-pub read-current : (s : MemoryAllocator) → SoundState pool s → readingAny (imageOf current s) ≡ accepted s
-read-current s sound = read-any current (housed-of 2) s sound refl ∙ ap accepted (grown-same s sound)
+pub read-current : (a : Account) → SoundAccount pool a → readingAny (imageOf current a) ≡ accepted a
+read-current a sound = read-any current (housed-of 3) a sound refl ∙ ap accepted (grown-same a sound)
 
-pub read-older : (s : MemoryAllocator) → SoundState (version1 .records) s → readingAny (imageOf version1 s) ≡ accepted (grown (version1 .records) pool s)
-read-older s sound = read-any version1 (housed-of 1) s sound refl
+-- an older image gives the total as the lowest figure, an empty one too
+pub read-version2 : (a : Account) → SoundAccount pool a → readingAny (imageOf version2 a) ≡ accepted (account (a .ranges) (a .ranges .«free_size»))
+read-version2 a sound = read-any version2 (housed-of 2) a sound refl ∙ ap accepted (grown-same (toldBy version2 a) (told-sound version2 a sound))
+
+pub read-version1 : (a : Account) → SoundAccount (version1 .records) a → readingAny (imageOf version1 a) ≡ accepted (grown (version1 .records) pool (account (a .ranges) (a .ranges .«free_size»)))
+read-version1 a sound = read-any version1 (housed-of 1) a sound refl
 
 -- ---- what is accepted
 
@@ -72,20 +84,22 @@ module _ (l : List ℕ) (bytes : Bytes l) where
   housed : Housed f
   housed = housed-of (numberIn l 0 lengthAt)
 
-  -- what is accepted is the image of a sound state by the layout that the first byte tells
+  -- what is accepted is the image of a sound account by the layout that the first byte tells
   pub any-image : readingAny l .number ≡ numberOf Done → Image f l
   unfolding readingAny
   any-image e = accepted-image f (housed .lawful) l bytes e
 
-  pub any-state : (h : readingAny l .number ≡ numberOf Done) → readingAny l ≡ accepted (grown (f .records) pool (any-image h .state))
+  pub any-state : (h : readingAny l .number ≡ numberOf Done) → readingAny l ≡ accepted (grown (f .records) pool (toldBy f (any-image h .state)))
   unfolding readingAny
   any-state h =
       let i = any-image h in
       let e = ap (readingOf f) (sym (i .bytes)) ∙ read-written f (housed .lawful) (i .state) (i .sound) in
       rw e
 
-  pub any-sound : readingAny l .number ≡ numberOf Done → SoundState pool (readingAny l .state)
-  any-sound h = let i = any-image h in subst (SoundState pool) (sym (ap (λ (x : Handed). x .state) (any-state h))) (grown-sound f housed (i .state) (i .sound))
+  pub any-sound : readingAny l .number ≡ numberOf Done → SoundAccount pool (readingAny l .state)
+  any-sound h =
+      let i = any-image h in
+      subst (SoundAccount pool) (sym (ap (λ (x : Handed). x .state) (any-state h))) (grown-sound f housed (toldBy f (i .state)) (told-sound f (i .state) (i .sound)))
 
   -- what was read, written as the current version and read again, is the same
   pub again-same : readingAny l .number ≡ numberOf Done → readingAny (imageOf current (readingAny l .state)) ≡ readingAny l
@@ -99,19 +113,26 @@ module _ (l : List ℕ) (bytes : Bytes l) where
 image-told : (f : Layout) → Housed f → layoutOf (f .version) ≡ f → (l : List ℕ) → Image f l → layoutIn l ≡ f
 image-told f housed e l i = subst (λ (x : List ℕ). layoutIn x ≡ f) (i .bytes) (ap layoutOf (version-told f housed (i .state) (i .sound)) ∙ e)
 
--- refused is exactly what no sound state writes, in any version that is read
-pub refused-any : (l : List ℕ) → Bytes l → (readingAny l .number ≡ numberOf InvalidEntry) ↔ ((Image version1 l → ⊥) × (Image current l → ⊥))
+-- no sound account writes these bytes, by any layout that is read
+pub record Unwritten (l : List ℕ) : Type 0 where
+  pub first : Image version1 l → ⊥
+  pub second : Image version2 l → ⊥
+  pub now : Image current l → ⊥
+
+-- refused is exactly that
+pub refused-any : (l : List ℕ) → Bytes l → (readingAny l .number ≡ numberOf InvalidEntry) ↔ Unwritten l
 unfolding readingAny
-refused-any l bytes = (λ e. (no version1 (housed-of 1) refl e, no current (housed-of 2) refl e), λ h. refused-exactly (layoutIn l) (housed-of (numberIn l 0 lengthAt) .lawful) l bytes .1 (either h))
+refused-any l bytes = (
+  λ e. record { first = no version1 (housed-of 1) refl e; second = no version2 (housed-of 2) refl e; now = no current (housed-of 3) refl e },
+  λ h. refused-exactly (layoutIn l) (housed-of (numberIn l 0 lengthAt) .lawful) l bytes .1 (pick (eqb (numberIn l 0 lengthAt) (version1 .version)) (eqb (numberIn l 0 lengthAt) (version2 .version)) h),
+)
   where
     no : (f : Layout) → Housed f → layoutOf (f .version) ≡ f → readingOf (layoutIn l) l .number ≡ numberOf InvalidEntry → Image f l → ⊥
     no f housed same e i =
         let told = image-told f housed same l i in
         refused-exactly f (housed .lawful) l bytes .0 (subst (λ (x : Layout). readingOf x l .number ≡ numberOf InvalidEntry) told e) i
 
-    pick : (t : Bool) → (Image version1 l → ⊥) × (Image current l → ⊥) → Image (cond t version1 current) l → ⊥
-    pick true h = h .0
-    pick false h = h .1
-
-    either : (Image version1 l → ⊥) × (Image current l → ⊥) → Image (layoutIn l) l → ⊥
-    either h = pick (eqb (numberIn l 0 lengthAt) (version1 .version)) h
+    pick : (t u : Bool) → Unwritten l → Image (cond t version1 (cond u version2 current)) l → ⊥
+    pick true u h = h .first
+    pick false true h = h .second
+    pick false false h = h .now

@@ -1,32 +1,33 @@
 -- What the definitions give on each way through the code, over any layout. Assumes nothing.
-use mathlib.Core.Path.{_≡_, refl, sym, ap, subst}
-use mathlib.Core.Bool.{Bool, true, false}
+use mathlib.Core.Path.{_≡_, refl, sym, ap, subst, _∙_}
+use mathlib.Core.Bool.{Bool, true, false, cond, _&&_}
 use mathlib.Core.List.{List}
 use Prim.Native.Nat.{ℕ, _+_, _≤_}
 use lib.Dec.{eqb}
 use lib.ListN.{length}
 use borrow.Author.Tests.{eq-eqb, ne-eqb, eqb-true}
 use Rattle.linked_lists.specs.Links.{none}
-use Rattle.rules.specs.Rules.{empty}
+use Rattle.rules.specs.Rules.{Book, empty}
 use Rattle.rules_laws.proofs.Kept.{empty-sound}
 use Rattle.pool_state.specs.Shown.{pool}
 use Rattle.pool_state.specs.State.{stateOf}
 use Rattle.pool_state.proofs.Book.{book-back}
-use Rattle.pool_state.specs.declared.MemoryAllocator.{MemoryAllocator}
-use Rattle.check_state.specs.IsSound.{isSound}
+use Rattle.rules_lowest.specs.Lowest.{never}
+use Rattle.account_state.specs.Account.{account, opened, isSound}
+use Rattle.account_state.specs.declared.Account.{Account}
 use Rattle.image_parts.specs.Layout.{Layout, Housed, current, lengthAt, lengthSize, recordsAt, enabledAt, recordSize, imageSize, restSize}
 use Rattle.image_writing.specs.Writing.{imageOf}
 use Rattle.image.specs.Writing.{written, writingOf}
 use Rattle.image_parts.specs.Read.{numberIn, bits}
 use Rattle.image_parts.proofs.Loops.{both}
-use Rattle.image_reading.specs.Reading.{framed, stateIn, readable, grown, ReadsState}
+use Rattle.image_reading.specs.Reading.{framed, accountIn, readable, grown, ReadsAccount}
 use Rattle.image_parts.proofs.Lawful.{small-pool, housed-of}
-use Rattle.image.specs.Reading.{handed, accepted, refused, readingOf, layoutIn, readingAny}
+use Rattle.image.specs.Reading.{Handed, handed, accepted, refused, readingOf, layoutIn, readingAny}
 use Rattle.image.specs.declared.ImageAnswer.the-variants.{Done, InvalidEntry}
 
 -- ---- writing
 
-module _ (f : Layout) (s : MemoryAllocator) (l : List ℕ) where
+module _ (f : Layout) (s : Account) (l : List ℕ) where
   pub wrong-length : (length l ≡ imageSize f → ⊥) → written InvalidEntry l ≡ writingOf f s l
   unfolding writingOf
   wrong-length h = rw (ne-eqb (length l) (imageSize f) h)
@@ -76,10 +77,14 @@ module _ (f : Layout) (l : List ℕ) where
     unfolding readingOf
     unframed off = rw (← eb, off)
 
-    module _ (on : b ≡ true) (s : MemoryAllocator) (es : s ≡ stateIn f l) (t : Bool) (et : t ≡ isSound (f .records) s) where
+    module _ (on : b ≡ true) (s : Account) (es : s ≡ accountIn f l) (t : Bool) (et : t ≡ isSound (f .records) s) where
       pub read-done : t ≡ true → accepted s ≡ readingOf f l
       unfolding readingOf
-      read-done is = rw (← eb, on, ← es, ← et, is)
+      read-done is =
+          let frames : framed f l ≡ true = sym eb ∙ on in
+          let passes : isSound (f .records) (accountIn f l) ≡ true = ap (λ (x : Account). isSound (f .records) x) (sym es) ∙ sym et ∙ is in
+          let reads : readable f l ≡ true = (λ z. frames z && passes z) in
+          ap accepted es ∙ sym (ap (λ (c : Bool). cond {A = Handed} c (accepted (accountIn f l)) (refused f)) reads)
 
   -- by what was told of the bytes as a whole
   module _ (r : Bool) (told : r ≡ readable f l) where
@@ -87,22 +92,22 @@ module _ (f : Layout) (l : List ℕ) where
     unfolding readingOf
     unread off = rw (← told, off)
 
-    pub read-whole : r ≡ true → (s : MemoryAllocator) → s ≡ stateIn f l → accepted s ≡ readingOf f l
+    pub read-whole : r ≡ true → (s : Account) → s ≡ accountIn f l → accepted s ≡ readingOf f l
     unfolding readingOf
     read-whole on s es = rw (← told, on, ← es)
 
 -- ---- of any version
 
 -- the empty state grows to the empty state
-empty-grows : (n m : ℕ) → n ≤ none → grown n m (stateOf n empty) ≡ stateOf m empty
-empty-grows n m small = ap (stateOf m) (book-back n small empty (empty-sound n))
+empty-grows : (n m : ℕ) → n ≤ none → grown n m (opened n) ≡ opened m
+empty-grows n m small = ap (λ (b : Book). account (stateOf m b) never) (book-back n small empty (empty-sound n))
 
 pub housed-told : (f : Layout) (l : List ℕ) → f ≡ layoutIn l → Housed f
 housed-told f l e = subst Housed (sym e) (housed-of (numberIn l 0 lengthAt))
 
 -- what was read by the layout of the bytes
-pub by-told : (f : Layout) (l : List ℕ) (r : Bool) (s : MemoryAllocator) → f ≡ layoutIn l → ReadsState pool f l r s → ReadsState pool (layoutIn l) l r s
-by-told f l r s e h = subst (λ (x : Layout). ReadsState pool x l r s) e h
+pub by-told : (f : Layout) (l : List ℕ) (r : Bool) (s : Account) → f ≡ layoutIn l → ReadsAccount pool f l r s → ReadsAccount pool (layoutIn l) l r s
+by-told f l r s e h = subst (λ (x : Layout). ReadsAccount pool x l r s) e h
 
 module _ (l : List ℕ) (r : Bool) (told : r ≡ readable (layoutIn l) l) where
   abbrev f : Layout
@@ -114,8 +119,8 @@ module _ (l : List ℕ) (r : Bool) (told : r ≡ readable (layoutIn l) l) where
       let e = unread f l r told off in
       rw (← e) (ap (handed InvalidEntry) (sym (empty-grows (f .records) pool (small-pool f (housed-of (numberIn l 0 lengthAt) .lawful)))))
 
-  pub any-read : r ≡ true → (s : MemoryAllocator) → s ≡ grown (f .records) pool (stateIn f l) → accepted s ≡ readingAny l
+  pub any-read : r ≡ true → (s : Account) → s ≡ grown (f .records) pool (accountIn f l) → accepted s ≡ readingAny l
   unfolding readingAny
   any-read on s es =
-      let e = read-whole f l r told on (stateIn f l) refl in
+      let e = read-whole f l r told on (accountIn f l) refl in
       rw (← e) (ap (handed Done) es)

@@ -1,4 +1,4 @@
--- What is written of the state in a framed list of bytes is that list. Assumes nothing.
+-- What is written of the account in a framed list of bytes is that list. Assumes nothing.
 use mathlib.Core.Path.{_≡_, refl, sym, _∙_, ap}
 use mathlib.Core.Bool.{Bool, false}
 use mathlib.Core.Logic.{⊎-elim}
@@ -19,7 +19,7 @@ use Rattle.image_parts.specs.Layout.{Layout, Lawful, word, noLink, lengthAt, le
 use Rattle.image_parts.specs.Written.{joined, linkNumber, flagNumber, linkBytes, recordBytes, headBytes}
 use Rattle.image_writing.specs.Writing.{entryAt, imageOf}
 use Rattle.image_parts.specs.Read.{numberIn, linkOf, numbersIn, linksIn, flagsIn}
-use Rattle.image_reading.specs.Reading.{stateIn}
+use Rattle.image_reading.specs.Reading.{stateIn, lowIn, accountIn}
 use Rattle.image_parts.proofs.Loops.{bit-at}
 use Rattle.image_parts.proofs.Places.{one-byte, beside, part-below, again, joined-take}
 use Rattle.image_parts.proofs.Parts.{record-room}
@@ -117,12 +117,16 @@ module _ (f : Layout) (lawful : Lawful f) where
     unfolding stateIn
     total-again = head-part totalAt word _ (omega arith) refl
 
-    -- no bytes
-    low-again : be (f .low) 0 ≡ take (f .low) (drop (lowAt f) l)
+    -- no bytes, or those that were read
+    low-again : be (f .low) (lowIn f l) ≡ take (f .low) (drop (lowAt f) l)
     unfolding be
-    low-again = rw (lawful .lows)
+    low-again =
+        let s = frame .sized in
+        ⊎-elim (λ (e : f .low ≡ 0). rw e)
+        (λ d. let whole = lawful .whole-low d in rw (ne-eqb (f .low) 0 d, whole) (again l (lowAt f) word bytes (omega arith)))
+        (same? (f .low) 0)
 
-    pub image-again : imageOf f (stateIn f l) ≡ l
+    pub image-again : imageOf f (accountIn f l) ≡ l
     unfolding imageOf headBytes
     image-again =
         let w = f .link in

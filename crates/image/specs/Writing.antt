@@ -1,22 +1,21 @@
--- The images of sound states, and what writing one answers. Assumes nothing.
+-- The images of sound accounts, and what writing one answers. Assumes nothing.
 use Prim.Native.Nat.{ℕ}
 use mathlib.Core.Bool.{cond, _&&_}
 use mathlib.Core.List.{List}
 use mathlib.Core.Path.{_≡_}
 use lib.Dec.{eqb}
 use lib.ListN.{length}
-use Rattle.pool_state.specs.Sound.{SoundState}
-use Rattle.pool_state.specs.declared.MemoryAllocator.{MemoryAllocator}
-use Rattle.check_state.specs.IsSound.{isSound}
+use Rattle.account_state.specs.Account.{SoundAccount, isSound}
+use Rattle.account_state.specs.declared.Account.{Account}
 use Rattle.image_parts.specs.Layout.{Layout, imageSize}
 use Rattle.image_writing.specs.Writing.{imageOf}
 use Rattle.image.specs.declared.ImageAnswer.{ImageAnswer}
 use Rattle.image.specs.declared.ImageAnswer.the-variants.{Done, InvalidEntry}
 
--- l is the image of a sound state
+-- l is the image of a sound account
 pub record Image (f : Layout) (l : List ℕ) : Type 0 where
-  pub state : MemoryAllocator
-  pub sound : SoundState (f .records) state
+  pub state : Account
+  pub sound : SoundAccount (f .records) state
   pub bytes : imageOf f state ≡ l
 
 -- the number of an answer
@@ -32,5 +31,5 @@ pub record Written : Type 0 where
 abbrev pub written : ImageAnswer → List ℕ → Written
 written a l = record { number = numberOf a; bytes = l }
 
-unfoldable pub writingOf : Layout → MemoryAllocator → List ℕ → Written
-writingOf f s l = cond (eqb (length l) (imageSize f) && isSound (f .records) s) (written Done (imageOf f s)) (written InvalidEntry l)
+unfoldable pub writingOf : Layout → Account → List ℕ → Written
+writingOf f a l = cond (eqb (length l) (imageSize f) && isSound (f .records) a) (written Done (imageOf f a)) (written InvalidEntry l)

@@ -1,20 +1,20 @@
-// The byte image of a state: its writer and its reader.
-use pool_state::MemoryAllocator;
+// The byte image of an account: its writer and its reader.
+use account_state::Account;
 
 mod read;
 mod write;
 
 pub use read::read_image;
+pub use write::write_account;
 pub use write::write_image;
-pub use write::write_state;
 
 pub enum ImageAnswer {
     Done,
     InvalidEntry,
 }
 
-// What reading gives: a refused read hands over the empty state.
+// What reading gives: a refused read hands over the account of an empty allocator.
 pub struct Reading {
     pub answer: ImageAnswer,
-    pub state: MemoryAllocator,
+    pub state: Account,
 }

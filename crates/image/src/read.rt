@@ -1,6 +1,8 @@
 // Reading an image.
 use crate::ImageAnswer;
 use crate::Reading;
+use account_state::Account;
+use account_state::NEVER;
 use image_parts::layout::layout_of;
 use image_reading::read_fields;
 use pool_state::LISTS;
@@ -17,18 +19,23 @@ fn refusal() -> Reading
     ensures { λ r. ⌜ handed (r .answer) (r .state) ≡ refused current ⌝ }
 {
     let answer = ImageAnswer::InvalidEntry;
-    let state = new();
+    let ranges = new();
+    let state = Account {
+        ranges: ranges,
+        lowest: NEVER,
+    };
     Reading {
         answer: answer,
         state: state,
     }
 }
 
-// The sound state whose image this is, if there is one, whatever its version.
+// The sound account whose image this is, if there is one, whatever its version.
 pub fn read_image(image: &[u8]) -> Reading
     ensures { λ r. ⌜ handed (r .answer) (r .state) ≡ readingAny (now (image .entry)) ⌝ }
 {
     let form = layout_of(image);
+    let mut lowest: u64 = 0;
     let mut total: u64 = 0;
     let mut first: u16 = NONE;
     let mut heads = [NONE; LISTS];
@@ -42,6 +49,7 @@ pub fn read_image(image: &[u8]) -> Reading
     if read_fields(
         image,
         form,
+        &mut lowest,
         &mut total,
         &mut first,
         &mut heads,
@@ -54,20 +62,25 @@ pub fn read_image(image: &[u8]) -> Reading
         &mut lnext,
     ) {
         let answer = ImageAnswer::Done;
+        let ranges = MemoryAllocator {
+            free_size: total,
+            first_entry: RecordIndex(first),
+            free_list: heads,
+            start: start,
+            end: end,
+            enabled: enabled,
+            previous: previous,
+            next: next,
+            list_prev: lprev,
+            list_next: lnext,
+        };
+        let state = Account {
+            ranges: ranges,
+            lowest: lowest,
+        };
         return Reading {
             answer: answer,
-            state: MemoryAllocator {
-                free_size: total,
-                first_entry: RecordIndex(first),
-                free_list: heads,
-                start: start,
-                end: end,
-                enabled: enabled,
-                previous: previous,
-                next: next,
-                list_prev: lprev,
-                list_next: lnext,
-            },
+            state: state,
         };
     }
     refusal()

@@ -5,15 +5,12 @@ use mathlib.Core.List.{List}
 use mathlib.Core.Path.{_≡_, refl, sym, _∙_, ap, subst}
 use lib.IntN.{ℤ, pos}
 use lib.ListN.{length}
-use Rattle.pool_state.specs.State.{Holds}
-use Rattle.pool_state.specs.Sound.{bookOf, SoundState}
-use Rattle.pool_state.specs.declared.MemoryAllocator.{MemoryAllocator}
-use Rattle.pool_state.proofs.Book.{sound-holds}
-use Rattle.check_state.specs.IsSound.{isSound}
-use Rattle.check_meaning.proofs.Exact.{passes-sound}
+use Rattle.account_state.specs.Account.{SoundAccount, isSound}
+use Rattle.account_state.specs.declared.Account.{Account}
+use Rattle.account_state.specs.declared.Entered.{Entered}
+use Rattle.account_state.proofs.Exact.{passes-sound}
 use Rattle.calls.specs.Calls.{signedOf}
 use Rattle.calls.specs.declared.Answer.the-variants.{Accepted, InvalidEntry, InvalidRequest}
-use Rattle.calls.specs.declared.Outcome.{Outcome}
 use Rattle.batch.specs.Lists.{fitted, Served, Serves}
 use Rattle.batch.proofs.Histories.{list-sound}
 use Rattle.batch.proofs.Ways.{unfitted, done}
@@ -22,7 +19,7 @@ use Rattle.image_parts.specs.Layout.{Layout, Lawful, imageSize}
 use Rattle.image_parts.proofs.Lawful.{small-pool}
 use Rattle.image_parts.proofs.Loops.{both}
 use Rattle.image_writing.specs.Writing.{entryAt, imageOf, Standing}
-use Rattle.image_reading.specs.Reading.{stateIn, framed, readable}
+use Rattle.image_reading.specs.Reading.{accountIn, framed, readable}
 use Rattle.image_reading.proofs.Whole.{state-sized}
 use Rattle.image.proofs.Ways.{framed-frame, unread, read-whole}
 use Rattle.image.proofs.Standing.{stands}
@@ -33,9 +30,9 @@ module _ (f : Layout) (l calls : List ℕ) (old : List ℤ) where
   unfolding listOver answersOver over
   no-list off = let e = unread f l false (sym off) refl in record { image-now = rw (← e); answers-now = rw (← e) }
 
-  module _ (s : MemoryAllocator) (h : Held f l s) where
+  module _ (s : Account) (h : Held f l s) where
     -- what the list is answered and leaves, written
-    served-list : (r : Outcome) (now : List ℤ) → Serves (f .records) s calls old r now → (x : ℤ) (l′ : List ℕ) → returned x l′ ≡ finished f r l → BatchOver f l calls old x l′ now
+    served-list : (r : Entered) (now : List ℤ) → Serves (f .records) s calls old r now → (x : ℤ) (l′ : List ℕ) → returned x l′ ≡ finished f r l → BatchOver f l calls old x l′ now
     unfolding listOver answersOver over
     served-list r now sv x l′ is =
         let e = read-whole f l true (sym (h .serves)) refl s (h .state) in
@@ -52,22 +49,19 @@ module _ (f : Layout) (l calls : List ℕ) (old : List ℤ) where
     list-unfitted off = served-list _ old (unfitted (f .records) s calls old passes off) _ l refl
 
     module _ (lawful : Lawful f) where
-      sound : SoundState (f .records) s
-      sound = rw (h .state) (passes-sound (f .records) (small-pool f lawful) (stateIn f l) (state-sized f l) (both (framed f l) _ (h .serves) .1))
+      pub held-sound : SoundAccount (f .records) s
+      held-sound = rw (h .state) (passes-sound (f .records) (small-pool f lawful) (accountIn f l) (state-sized f l) (both (framed f l) _ (h .serves) .1))
 
-      pub held-holds : Holds (f .records) (bookOf (f .records) s) s
-      held-holds = sound-holds (f .records) s sound
-
-      module _ (fits : fitted calls (length old) ≡ true) (s′ : MemoryAllocator) (now : List ℤ) (sv : Served (f .records) s calls old s′ now) where
+      module _ (fits : fitted calls (length old) ≡ true) (s′ : Account) (now : List ℤ) (sv : Served (f .records) s calls old s′ now) where
         outcome : Serves (f .records) s calls old (record { answer = Accepted (record { 0 = 0 }); state = s′ }) now
         outcome = done (f .records) s calls old passes s′ now fits sv
 
-        left-sound : SoundState (f .records) s′
-        left-sound = subst (SoundState (f .records)) (sym (ap (λ (r : Outcome). r .state) (outcome .outcome))) (list-sound (f .records) (small-pool f lawful) s sound (record { words = calls; places = old }))
+        left-sound : SoundAccount (f .records) s′
+        left-sound = subst (SoundAccount (f .records)) (sym (ap (λ (r : Entered). r .state) (outcome .outcome))) (list-sound (f .records) (small-pool f lawful) s held-sound (record { words = calls; places = old }))
 
         -- the records that are passed over stand in the image
-        pub list-stands : Bytes l → Standing f (f .records) l (entryAt s′)
-        list-stands bytes = stands f lawful l bytes (h .serves) s′ left-sound
+        pub list-stands : Bytes l → Standing f (f .records) l (entryAt (s′ .ranges))
+        list-stands bytes = stands f lawful l bytes (h .serves) (s′ .ranges) (left-sound .ranges)
 
         pub list-written : (l′ : List ℕ) → l′ ≡ imageOf f s′ → BatchOver f l calls old (pos 0) l′ now
         unfolding finished

@@ -7,15 +7,15 @@ use denote.Ref.{RefT, now}
 use lib.Dec.{eqb}
 use lib.IntN.{ℤ}
 use lib.ListN.{length}
-use Rattle.pool_state.specs.Lent.{OfFields, fields}
-use Rattle.pool_state.specs.declared.MemoryAllocator.{MemoryAllocator}
+use Rattle.account_state.specs.Lent.{OfEleven, eleven}
+use Rattle.account_state.specs.declared.Account.{Account}
+use Rattle.account_state.specs.declared.Entered.{Entered}
 use Rattle.calls.specs.Calls.{isAccepted, signedOf}
 use Rattle.calls.specs.declared.Answer.the-variants.{InvalidEntry}
-use Rattle.calls.specs.declared.Outcome.{Outcome}
 use Rattle.batch.specs.Lists.{listServed, answered}
 use Rattle.image_parts.specs.Layout.{Layout}
 use Rattle.image_writing.specs.Writing.{imageOf}
-use Rattle.image_reading.specs.Reading.{stateIn, readable}
+use Rattle.image_reading.specs.Reading.{accountIn, readable}
 use Rattle.image.specs.Reading.{readingOf}
 
 -- what a call returns, and the image that it leaves
@@ -26,15 +26,15 @@ pub record Returned : Type 0 where
 abbrev pub returned : ℤ → List ℕ → Returned
 returned i l = record { number = i; bytes = l }
 
--- the image of the state that an accepted call leaves; a refusal changes no byte
-unfoldable pub finished : Layout → Outcome → List ℕ → Returned
+-- the image of the account that an accepted call leaves; a refusal changes no byte
+unfoldable pub finished : Layout → Entered → List ℕ → Returned
 finished f r l = returned (signedOf (r .answer)) (cond (isAccepted (r .answer)) (imageOf f (r .state)) l)
 
 -- InvalidEntry, unless the image serves
-unfoldable pub over : Layout → Bool → Outcome → List ℕ → Returned
+unfoldable pub over : Layout → Bool → Entered → List ℕ → Returned
 over f serves r l = cond serves (finished f r l) (returned (signedOf InvalidEntry) l)
 
--- a list of calls, with so many places, on the state whose image this is
+-- a list of calls, with so many places, on the account whose image this is
 unfoldable pub listOver : Layout → List ℕ → ℕ → List ℕ → Returned
 listOver f calls places l = over f (eqb (readingOf f l .number) 0) (listServed (f .records) (readingOf f l .state) calls places) l
 
@@ -47,11 +47,11 @@ pub record BatchOver (f : Layout) (l calls : List ℕ) (old : List ℤ) (r : ℤ
   pub image-now : returned r l′ ≡ listOver f calls (length old) l
   pub answers-now : now ≡ answersOver f calls old l
 
--- s is the state whose image this is
-pub record Held (f : Layout) (l : List ℕ) (s : MemoryAllocator) : Type 0 where
+-- a is the account whose image this is
+pub record Held (f : Layout) (l : List ℕ) (a : Account) : Type 0 where
   pub serves : readable f l ≡ true
-  pub state : s ≡ stateIn f l
+  pub state : a ≡ accountIn f l
 
--- so are the ten fields that are lent
-abbrev pub HeldIn : Layout → RefT (List ℕ) → OfFields
-HeldIn f image = fields (Held f (now image))
+-- so are the eleven fields that are lent
+abbrev pub HeldIn : Layout → RefT (List ℕ) → OfEleven
+HeldIn f image = eleven (Held f (now image))

@@ -1,4 +1,4 @@
-// A list of calls, served on the state that a lent image holds.
+// A list of calls, served on the account that a lent image holds.
 use batch::list_fits;
 use batch::serve_list_in;
 use calls::INVALID_ENTRY;
@@ -14,9 +14,10 @@ ghost use Rattle.image_calls.specs.Lists.{BatchOver, HeldIn};
 
 const INVALID_REQUEST: i64 = -4;
 
-// The list, on the fields of the state whose image this is. Of the records, those that are in use or were are written.
+// The list, on the fields of the account whose image this is. Of the records, those that are in use or were are written.
 fn serve_held(
     image: &mut [u8],
+    lowest: &mut u64,
     total: &mut u64,
     first: &mut u16,
     heads: &mut [u16; LISTS],
@@ -30,11 +31,12 @@ fn serve_held(
     calls: &[u64],
     answers: &mut [i64],
 ) -> i64
-    requires { ⌜ HeldIn current image total first heads start end enabled previous next lprev lnext ⌝ }
+    requires { ⌜ HeldIn current image lowest total first heads start end enabled previous next lprev lnext ⌝ }
     ensures { λ r. ⌜ BatchOver current (was image) (was calls) (was answers) r (is image) (is answers) ⌝ }
 {
     if list_fits(calls, answers.len()) {
         serve_list_in(
+            lowest,
             total,
             first,
             heads,
@@ -51,6 +53,7 @@ fn serve_held(
         write_fields(
             image,
             false,
+            *lowest,
             *total,
             RecordIndex(*first),
             heads,
@@ -67,11 +70,12 @@ fn serve_held(
     INVALID_REQUEST
 }
 
-// The image is read and written once, whatever the length of the list; reading has checked the state. Ten locals are the whole state:
+// The image is read and written once, whatever the length of the list; reading has checked the account. Eleven locals are the whole of it:
 // what reads, serves and writes it is lent them.
 pub fn list_over(image: &mut [u8], calls: &[u64], answers: &mut [i64]) -> i64
     ensures { λ r. ⌜ BatchOver current (now (image .entry)) (now (calls .entry)) (now (answers .entry)) r (now (image .exit)) (now (answers .exit)) ⌝ }
 {
+    let mut lowest: u64 = 0;
     let mut total: u64 = 0;
     let mut first: u16 = NONE;
     let mut heads = [NONE; LISTS];
@@ -84,6 +88,7 @@ pub fn list_over(image: &mut [u8], calls: &[u64], answers: &mut [i64]) -> i64
     let mut lnext = [NONE; POOL];
     let readable = read_current(
         &image[..],
+        &mut lowest,
         &mut total,
         &mut first,
         &mut heads,
@@ -98,6 +103,7 @@ pub fn list_over(image: &mut [u8], calls: &[u64], answers: &mut [i64]) -> i64
     if readable {
         return serve_held(
             image,
+            &mut lowest,
             &mut total,
             &mut first,
             &mut heads,

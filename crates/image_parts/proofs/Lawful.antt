@@ -6,27 +6,37 @@ use Prim.Native.Nat.{ℕ, zero, suc, _+_, _-_, _*_, _^_, _<_, _≤_}
 use native.Mathlib.Nat.{one-le-pow}
 use native.Mathlib.Omega.{arith}
 use Rattle.linked_lists.specs.Links.{none}
-use Rattle.image_parts.specs.Layout.{Layout, version1, current, layoutOf, noLink, Lawful, Housed}
+use Rattle.image_parts.specs.Layout.{Layout, version1, version2, current, layoutOf, noLink, Lawful, Housed, Figured}
 
 pub lawful-version1 : Lawful version1
-lawful-version1 = record { versions = omega arith; rests = omega arith; records = omega arith; links = omega arith; lows = refl }
+lawful-version1 = record { versions = omega arith; rests = omega arith; records = omega arith; links = omega arith; lows = omega arith; whole-low = λ d. absurd (d refl) }
 
 pub housed-version1 : Housed version1
 housed-version1 = record { lawful = lawful-version1; room = omega arith }
 
+pub lawful-version2 : Lawful version2
+lawful-version2 = record { versions = omega arith; rests = omega arith; records = omega arith; links = omega arith; lows = omega arith; whole-low = λ d. absurd (d refl) }
+
+pub housed-version2 : Housed version2
+housed-version2 = record { lawful = lawful-version2; room = omega arith }
+
 pub lawful-current : Lawful current
-lawful-current = record { versions = omega arith; rests = omega arith; records = omega arith; links = omega arith; lows = refl }
+lawful-current = record { versions = omega arith; rests = omega arith; records = omega arith; links = omega arith; lows = omega arith; whole-low = λ d. refl }
 
 pub housed-current : Housed current
 housed-current = record { lawful = lawful-current; room = omega arith }
 
+pub figured-current : Figured current
+figured-current = record { lawful = lawful-current; figured = λ e. omega arith }
+
 -- whatever the first byte is
 pub housed-of : (v : ℕ) → Housed (layoutOf v)
-housed-of v = go (eqb v (version1 .version))
+housed-of v = go (eqb v (version1 .version)) (eqb v (version2 .version))
   where
-    go : (t : Bool) → Housed (cond t version1 current)
-    go true = housed-version1
-    go false = housed-current
+    go : (t u : Bool) → Housed (cond t version1 (cond u version2 current))
+    go true u = housed-version1
+    go false true = housed-version2
+    go false false = housed-current
 
 -- so no record has the number that stands for none
 pub small-pool : (f : Layout) → Lawful f → f .records ≤ none

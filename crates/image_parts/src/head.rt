@@ -27,5 +27,5 @@ pub fn write_head(part: &mut [u8], total: u64, first: RecordIndex, heads: &[u16;
     put_word(&mut part[TOTAL..FIRST], total);
     put_be(&mut part[FIRST..HEADS], link_number(first));
     write_links(&mut part[HEADS..LOWEST], heads);
-    put_be(&mut part[LOWEST..RECORDS], low);
+    put_word(&mut part[LOWEST..RECORDS], low);
 }

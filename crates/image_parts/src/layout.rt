@@ -2,7 +2,7 @@
 use pool_state::LISTS;
 use pool_state::POOL;
 ghost use mathlib.Core.Path.{_≡_};
-ghost use Rattle.image_parts.specs.Layout.{Lawful, version1, current, layoutOf, lengthAt, noLink, recordsAt, recordSize, imageSize};
+ghost use Rattle.image_parts.specs.Layout.{Lawful, version1, version2, current, layoutOf, lengthAt, noLink, recordsAt, recordSize, imageSize};
 ghost use Rattle.image_parts.specs.Read.{numberIn};
 
 // A version of the image is a value: its number, its number of records, the bytes of a link, and those of a low figure after the heads.
@@ -13,7 +13,7 @@ pub struct Layout {
     pub low: usize,
 }
 
-// The bytes of an address and of the total.
+// The bytes of an address, of the total and of a low figure.
 pub const WORD: usize = 8;
 
 pub const LENGTH: usize = 1;
@@ -30,14 +30,15 @@ pub const LINKS: usize = ENABLED + 1;
 
 // ---- what is written
 
-pub const VERSION: u64 = 2;
+pub const VERSION: u64 = 3;
 
 // The bytes of a link, and the number that stands for no record.
 pub const LINK: usize = 2;
 
 pub const NO_LINK: u16 = 65535;
 
-pub const LOW: usize = 0;
+// The bytes of the low figure.
+pub const LOW: usize = WORD;
 
 pub const HEADS: usize = FIRST + LINK;
 
@@ -66,6 +67,18 @@ pub fn version_1() -> Layout
     }
 }
 
+// Of before: no low figure.
+pub fn version_2() -> Layout
+    ensures { λ r. ⌜ r ≡ version2 ⌝ }
+{
+    Layout {
+        version: 2,
+        records: POOL,
+        link: 2,
+        low: 0,
+    }
+}
+
 pub fn current_layout() -> Layout
     ensures { λ r. ⌜ r ≡ current ⌝ }
 {
@@ -86,6 +99,9 @@ pub fn layout_of(image: &[u8]) -> Layout
     }
     if image[0] == 1 {
         return version_1();
+    }
+    if image[0] == 2 {
+        return version_2();
     }
     current_layout()
 }

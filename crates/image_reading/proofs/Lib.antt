@@ -2,3 +2,4 @@
 pub mod Tests
 pub mod Grown
 pub mod Whole
+pub mod Figure

@@ -26,7 +26,7 @@ use Rattle.image_reading.proofs.Grown.{Grows, filled-by, grown-state, s
 use Rattle.image_parts.proofs.Loops.{both, bit-at}
 use Rattle.image_parts.proofs.Parts.{record-room}
 use Rattle.image_parts.proofs.Places.{part-below}
-use Rattle.image_reading.specs.Reading.{stateIn, framed, readable, headed, grown}
+use Rattle.image_reading.specs.Reading.{stateIn, framed, holdsRanges, headed, grownRanges}
 use Rattle.image_records.specs.Records.{linkNumberIn, linkIn, freshAt, flagAt, plainAt, plain, RecordsIn}
 use Rattle.image_records.proofs.Decoding.{number-here, start-here, flag-here, link-here, plain-unused, plain-used}
 
@@ -105,7 +105,10 @@ module _ (f : Layout) (l : List ℕ) where
   unfolding headed
   headed-sized h = eqb-true _ _ (both (eqb (length l) (imageSize f)) _ h .0)
 
-  pub not-headed : headed f l ≡ false → false ≡ readable f l
+  pub framed-sized : framed f l ≡ true → length l ≡ imageSize f
+  framed-sized e = headed-sized (both (headed f l) _ (sym framed-headed ∙ e) .0)
+
+  pub not-headed : headed f l ≡ false → false ≡ holdsRanges f l
   not-headed h = rw (framed-headed, h)
 
   -- ---- records that are in use or fresh
@@ -122,14 +125,14 @@ module _ (f : Layout) (l : List ℕ) where
       rw (le-leb _ 1 small) (plain-bits m (suc i) (p .1))
 
   module _ (m : ℕ) (le : n ≤ m) (most : m ≤ none) (s : MemoryAllocator) (g : Grows n m (stateIn f l) s) where
-    pub check-decides : headed f l ≡ true → plain f l n 0 ≡ true → (t : Bool) → t ≡ isSound m s → t ≡ readable f l
+    pub check-decides : headed f l ≡ true → plain f l n 0 ≡ true → (t : Bool) → t ≡ isSound m s → t ≡ holdsRanges f l
     check-decides h p t et = rw (framed-headed, h, plain-bits n 0 p) (et ∙ same-verdict n m le most (stateIn f l) s (state-sized f l) g)
 
-    pub checked-state : readable f l ≡ true → s ≡ grown n m (stateIn f l)
+    pub checked-state : holdsRanges f l ≡ true → s ≡ grownRanges n m (stateIn f l)
     checked-state e = grown-state n m le most (stateIn f l) s (state-sized f l) g (passes-sound n (let h = le in omega arith) (stateIn f l) (state-sized f l) (both (framed f l) _ e .1))
 
   -- a layout with all the records: the state is that of the bytes
-  pub whole-state : n ≤ none → readable f l ≡ true → grown n n (stateIn f l) ≡ stateIn f l
+  pub whole-state : n ≤ none → holdsRanges f l ≡ true → grownRanges n n (stateIn f l) ≡ stateIn f l
   whole-state small e = passes-sound n small (stateIn f l) (state-sized f l) (both (framed f l) _ e .1) .state
 
   -- ---- of a sound state, every record is in use or fresh
@@ -178,9 +181,9 @@ module _ (f : Layout) (l : List ℕ) where
       each-plain : true ≡ plainAt f l here
       each-plain = ⊎-elim (λ (e : flagAt l here ≡ 0). plain-unused f l here true e (sym (fresh-bytes e))) (λ e. plain-used f l here (let s = flag-bit in omega arith)) (same? (flagAt l here) 0)
 
-    readable-plain : readable f l ≡ true → plain f l n 0 ≡ true
+    ranges-plain : holdsRanges f l ≡ true → plain f l n 0 ≡ true
     unfolding plain
-    readable-plain e = all n 0 (omega arith)
+    ranges-plain e = all n 0 (omega arith)
       where
         p : (framed f l ≡ true) × (isSound n (stateIn f l) ≡ true)
         p = both (framed f l) _ e
@@ -192,9 +195,9 @@ module _ (f : Layout) (l : List ℕ) where
         all zero i h = refl
         all (suc m) i h = rw (← each-plain (p .0) sound i (omega arith)) (all m (suc i) (omega arith))
 
-    pub not-plain : plain f l n 0 ≡ false → false ≡ readable f l
-    not-plain h = go (readable f l) refl
+    pub not-plain : plain f l n 0 ≡ false → false ≡ holdsRanges f l
+    not-plain h = go (holdsRanges f l) refl
       where
-        go : (t : Bool) → readable f l ≡ t → false ≡ t
-        go true e = true≢false (sym (readable-plain e) ∙ h)
+        go : (t : Bool) → holdsRanges f l ≡ t → false ≡ t
+        go true e = true≢false (sym (ranges-plain e) ∙ h)
         go false e = refl

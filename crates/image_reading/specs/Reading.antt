@@ -1,6 +1,6 @@
--- The state in a list of bytes, and when they are the image of a sound one. Assumes nothing.
+-- The account in a list of bytes, and when they are the image of a sound one. Assumes nothing.
 use Prim.Native.Nat.{ℕ, _+_, _*_}
-use mathlib.Core.Bool.{Bool, true, _&&_}
+use mathlib.Core.Bool.{Bool, true, cond, _&&_}
 use mathlib.Core.List.{List}
 use mathlib.Core.Path.{_≡_}
 use lib.Dec.{eqb}
@@ -10,11 +10,14 @@ use Rattle.pool_state.specs.Lent.{Lent, was, OfFields, fields, OfLent, turns}
 use Rattle.pool_state.specs.Sound.{bookOf}
 use Rattle.pool_state.specs.State.{arrays, stateOf}
 use Rattle.pool_state.specs.declared.MemoryAllocator.{MemoryAllocator}
-use Rattle.check_state.specs.IsSound.{isSound}
-use Rattle.image_parts.specs.Layout.{Layout, word, lengthAt, lengthSize, totalAt, firstAt, headsAt, recordsAt, endAt, enabledAt, linksAt, recordSize, imageSize, restSize}
+use Rattle.check_state.specs.IsSound as ranges
+use Rattle.account_state.specs.Account.{account, isSound}
+use Rattle.account_state.specs.Lent.{OfLentEleven, turnsEleven}
+use Rattle.account_state.specs.declared.Account.{Account}
+use Rattle.image_parts.specs.Layout.{Layout, word, lengthAt, lengthSize, totalAt, firstAt, headsAt, lowAt, recordsAt, endAt, enabledAt, linksAt, recordSize, imageSize, restSize}
 use Rattle.image_parts.specs.Read.{numberIn, linkOf, numbersIn, linksIn, flagsIn, bits}
 
--- the state in the bytes, whatever they are
+-- the ranges in the bytes, whatever they are
 unfoldable pub stateIn : Layout → List ℕ → MemoryAllocator
 stateIn f l =
     let numbers : ℕ → List ℕ = λ o. numbersIn l (recordsAt f + o) (recordSize f) (f .records) in
@@ -31,9 +34,25 @@ framed f l =
     eqb (length l) (imageSize f) && (eqb (numberIn l 0 lengthAt) (f .version) && (eqb (numberIn l lengthAt lengthSize) (restSize f) &&
     bits l (recordsAt f + enabledAt) (recordSize f) (f .records) 0))
 
--- the bytes are the image of a sound state
+-- the lowest figure in the bytes; a layout that has none gives the total
+abbrev pub lowIn : Layout → List ℕ → ℕ
+lowIn f l = cond (eqb (f .low) 0) (numberIn l totalAt word) (numberIn l (lowAt f) word)
+
+-- both
+abbrev pub accountIn : Layout → List ℕ → Account
+accountIn f l = account (stateIn f l) (lowIn f l)
+
+-- the bytes are the image of a sound account
 abbrev pub readable : Layout → List ℕ → Bool
-readable f l = framed f l && isSound (f .records) (stateIn f l)
+readable f l = framed f l && isSound (f .records) (accountIn f l)
+
+-- the ranges of m records that hold the book of ranges of n
+abbrev pub grownRanges : ℕ → ℕ → MemoryAllocator → MemoryAllocator
+grownRanges n m s = stateOf m (bookOf n s)
+
+-- the same of an account; the figure stays
+abbrev pub grown : ℕ → ℕ → Account → Account
+grown n m a = account (grownRanges n m (a .ranges)) (a .lowest)
 
 -- ---- what the inner functions cite
 
@@ -45,22 +64,30 @@ headed f l = eqb (length l) (imageSize f) && (eqb (numberIn l 0 lengthAt) (f .ve
 abbrev pub FreshFields : ℕ → OfFields
 FreshFields n = fields (λ s. s ≡ stateOf n empty)
 
--- the state of m records that holds the book of a state of n
-abbrev pub grown : ℕ → ℕ → MemoryAllocator → MemoryAllocator
-grown n m s = stateOf m (bookOf n s)
+-- the ranges in the bytes are sound, whatever the figure is
+abbrev pub holdsRanges : Layout → List ℕ → Bool
+holdsRanges f l = framed f l && ranges.isSound (f .records) (stateIn f l)
 
--- r tells whether the bytes are the image of a sound state; where they are, the ten fields become that state, with m records
-pub record ReadsState (m : ℕ) (f : Layout) (l : List ℕ) (r : Bool) (s : MemoryAllocator) : Type 0 where
+-- r tells whether they are; where they are, the ten fields become those ranges, with m records
+pub record ReadsRanges (m : ℕ) (f : Layout) (l : List ℕ) (r : Bool) (s : MemoryAllocator) : Type 0 where
+  pub told : r ≡ holdsRanges f l
+  pub ranges : r ≡ true → s ≡ grownRanges (f .records) m (stateIn f l)
+
+abbrev pub ReadsTen : ℕ → Layout → Lent (List ℕ) → Bool → OfLent
+ReadsTen m f image r = turns (λ s s′. ReadsRanges m f (was image) r s′)
+
+-- r tells whether the bytes are the image of a sound account; where they are, the eleven fields become it, with m records
+pub record ReadsAccount (m : ℕ) (f : Layout) (l : List ℕ) (r : Bool) (a : Account) : Type 0 where
   pub told : r ≡ readable f l
-  pub state : r ≡ true → s ≡ grown (f .records) m (stateIn f l)
+  pub state : r ≡ true → a ≡ grown (f .records) m (accountIn f l)
 
-abbrev pub ReadsFields : ℕ → Layout → Lent (List ℕ) → Bool → OfLent
-ReadsFields m f image r = turns (λ s s′. ReadsState m f (was image) r s′)
+abbrev pub ReadsFields : ℕ → Layout → Lent (List ℕ) → Bool → OfLentEleven
+ReadsFields m f image r = turnsEleven (λ a a′. ReadsAccount m f (was image) r a′)
 
 -- the same, of a layout that has all the records
-pub record ReadsCurrent (f : Layout) (l : List ℕ) (r : Bool) (s : MemoryAllocator) : Type 0 where
+pub record ReadsCurrent (f : Layout) (l : List ℕ) (r : Bool) (a : Account) : Type 0 where
   pub told : r ≡ readable f l
-  pub state : r ≡ true → s ≡ stateIn f l
+  pub state : r ≡ true → a ≡ accountIn f l
 
-abbrev pub ReadsCurrentFields : Layout → Lent (List ℕ) → Bool → OfLent
-ReadsCurrentFields f image r = turns (λ s s′. ReadsCurrent f (was image) r s′)
+abbrev pub ReadsCurrentFields : Layout → Lent (List ℕ) → Bool → OfLentEleven
+ReadsCurrentFields f image r = turnsEleven (λ a a′. ReadsCurrent f (was image) r a′)

@@ -1,4 +1,4 @@
--- An upgraded image is the current image of the same chain and shelf; one of the current version comes out as it went in, and a second upgrade changes nothing. Assumes nothing.
+-- An upgraded image is the current image of the same chain, shelf and figure; one of the current version comes out as it went in, and a second upgrade changes nothing. Assumes nothing.
 use mathlib.Core.Path.{_≡_, sym, _∙_, ap}
 use mathlib.Core.List.{List}
 use Prim.Native.Nat.{ℕ}
@@ -12,8 +12,9 @@ use Rattle.image_parts.specs.Read.{numberIn}
 use Rattle.image_parts.proofs.Lawful.{housed-of}
 use Rattle.image_writing.specs.Writing.{imageOf}
 use Rattle.image.specs.Writing.{Image, Written, numberOf, written}
-use Rattle.image.specs.Reading.{Handed, layoutIn, readingAny}
+use Rattle.image.specs.Reading.{Handed, layoutIn, toldBy, readingAny}
 use Rattle.image.specs.declared.ImageAnswer.the-variants.{Done}
+use Rattle.image.proofs.Rounds.{told-sound}
 use Rattle.image.proofs.Versions.{grown-book, read-current, any-image, any-state, again-same}
 use Rattle.image_upgrade.specs.Upgrades.{upgradingOf}
 
@@ -29,10 +30,15 @@ module _ (old l : List ℕ) (sized : length l ≡ imageSize current) where
     read-same = ap readingAny (ap (λ (w : Written). w .bytes) (upgraded e)) ∙ again-same old bytes e
 
     -- the chain and the shelf, with the numbers of the records, are those of the old image
-    pub same-book : bookOf pool (readingAny old .state) ≡ bookOf (layoutIn old .records) (any-image old bytes e .state)
+    pub same-book : bookOf pool (readingAny old .state .ranges) ≡ bookOf (layoutIn old .records) (any-image old bytes e .state .ranges)
     same-book =
         let i = any-image old bytes e in
-        ap (bookOf pool) (ap (λ (h : Handed). h .state) (any-state old bytes e)) ∙ grown-book (layoutIn old) (housed-of (numberIn old 0 lengthAt)) (i .state) (i .sound)
+        let f = layoutIn old in
+        ap (λ (h : Handed). bookOf pool (h .state .ranges)) (any-state old bytes e) ∙ grown-book f (housed-of (numberIn old 0 lengthAt)) (toldBy f (i .state)) (told-sound f (i .state) (i .sound))
+
+    -- and the figure is what the old image tells: its own, or the total where it has none
+    pub same-figure : readingAny old .state .lowest ≡ toldBy (layoutIn old) (any-image old bytes e .state) .lowest
+    same-figure = ap (λ (h : Handed). h .state .lowest) (any-state old bytes e)
 
 -- a second upgrade changes nothing
 pub upgrade-again : (old l l′ : List ℕ) → Bytes old → length l ≡ imageSize current → length l′ ≡ imageSize current → readingAny old .number ≡ numberOf Done

@@ -6,10 +6,10 @@ use Prim.Native.Nat.{ℕ}
 use lib.ListN.{length}
 use borrow.Author.Tests.{eq-eqb, ne-eqb}
 use Rattle.pool_state.specs.Shown.{pool}
-use Rattle.pool_state.specs.declared.MemoryAllocator.{MemoryAllocator}
+use Rattle.account_state.specs.declared.Account.{Account}
 use Rattle.image_parts.specs.Layout.{Layout, current, imageSize}
 use Rattle.image_writing.specs.Writing.{imageOf}
-use Rattle.image_reading.specs.Reading.{ReadsState}
+use Rattle.image_reading.specs.Reading.{ReadsAccount}
 use Rattle.image.specs.Writing.{written}
 use Rattle.image.specs.Reading.{layoutIn}
 use Rattle.image.specs.declared.ImageAnswer.the-variants.{Done, InvalidEntry}
@@ -21,11 +21,11 @@ module _ (old l : List ℕ) where
   unfolding upgradingOf
   another-length h = rw (ne-eqb (length l) (imageSize current) h)
 
-  module _ (h : length l ≡ imageSize current) (r : Bool) (s : MemoryAllocator) (read : ReadsState pool (layoutIn old) old r s) where
+  module _ (h : length l ≡ imageSize current) (r : Bool) (a : Account) (read : ReadsAccount pool (layoutIn old) old r a) where
     pub no-image : r ≡ false → written InvalidEntry l ≡ upgradingOf old l
     unfolding upgradingOf
     no-image off = rw (eq-eqb (length l) (imageSize current) h, ← any-unread old r (read .told) off)
 
-    pub written-anew : r ≡ true → (l′ : List ℕ) → l′ ≡ imageOf current s → written Done l′ ≡ upgradingOf old l
+    pub written-anew : r ≡ true → (l′ : List ℕ) → l′ ≡ imageOf current a → written Done l′ ≡ upgradingOf old l
     unfolding upgradingOf
-    written-anew on l′ e = rw (eq-eqb (length l) (imageSize current) h, ← any-read old r (read .told) on s (read .state on), e)
+    written-anew on l′ e = rw (eq-eqb (length l) (imageSize current) h, ← any-read old r (read .told) on a (read .state on), e)

@@ -13,7 +13,7 @@ ghost use Rattle.pool_state.specs.Lent.{was, is};
 ghost use Rattle.image.specs.Writing.{written};
 ghost use Rattle.image_upgrade.specs.Upgrades.{upgradingOf};
 
-// The sound state whose image `old` is, written over a slice of the current length; else nothing changes. Ten locals are the whole state.
+// The sound account whose image `old` is, written over a slice of the current length; else nothing changes. Eleven locals are the whole account.
 pub fn upgrade_image(old: &[u8], image: &mut [u8]) -> ImageAnswer
     ensures { λ r. ⌜ written r (is image) ≡ upgradingOf (was old) (was image) ⌝ }
 {
@@ -21,6 +21,7 @@ pub fn upgrade_image(old: &[u8], image: &mut [u8]) -> ImageAnswer
         return ImageAnswer::InvalidEntry;
     }
     let form = layout_of(old);
+    let mut lowest: u64 = 0;
     let mut total: u64 = 0;
     let mut first: u16 = NONE;
     let mut heads = [NONE; LISTS];
@@ -34,6 +35,7 @@ pub fn upgrade_image(old: &[u8], image: &mut [u8]) -> ImageAnswer
     if read_fields(
         old,
         form,
+        &mut lowest,
         &mut total,
         &mut first,
         &mut heads,
@@ -48,6 +50,7 @@ pub fn upgrade_image(old: &[u8], image: &mut [u8]) -> ImageAnswer
         write_fields(
             image,
             true,
+            lowest,
             total,
             RecordIndex(first),
             &heads,

@@ -1,4 +1,4 @@
--- The bytes of a state, and what stands of them before they are written. Assumes nothing.
+-- The bytes of an account, and what stands of them before they are written. Assumes nothing.
 use Prim.Native.Nat.{ℕ, _+_, _<_}
 use mathlib.Core.Bool.{Bool, false}
 use mathlib.Core.List.{List, _++_}
@@ -8,6 +8,7 @@ use denote.Ref.{RefT, now}
 use lib.ListN.{getD, take, drop}
 use Rattle.pool_state.specs.Lent.{Lent, was, is}
 use Rattle.pool_state.specs.declared.MemoryAllocator.{MemoryAllocator}
+use Rattle.account_state.specs.declared.Account.{Account}
 use Rattle.image_parts.specs.Layout.{Layout, recordsAt, enabledAt, recordSize, recordAt}
 use Rattle.image_parts.specs.Written.{joined, recordBytes, headBytes}
 use Rattle.image_parts.specs.declared.records.MemoryEntry.{MemoryEntry}
@@ -27,9 +28,13 @@ entryOf start end enabled previous next lprev lnext i = record {
 abbrev pub entryAt : MemoryAllocator → ℕ → MemoryEntry
 entryAt s = entryOf (s .start) (s .end) (s .enabled) (s .previous) (s .next) (s .«list_prev») (s .«list_next»)
 
--- the image of a state; no state has a low figure
-unfoldable pub imageOf : Layout → MemoryAllocator → List ℕ
-imageOf f s = headBytes f (s .«free_size») (s .«first_entry» .0) (s .«free_list») 0 ++ joined (f .records) 0 (λ i. recordBytes f (entryAt s i))
+-- the bytes before the records
+abbrev pub headOf : Layout → Account → List ℕ
+headOf f a = headBytes f (a .ranges .«free_size») (a .ranges .«first_entry» .0) (a .ranges .«free_list») (a .lowest)
+
+-- the image of an account; a layout without a low figure has no bytes for it
+unfoldable pub imageOf : Layout → Account → List ℕ
+imageOf f a = headOf f a ++ joined (f .records) 0 (λ i. recordBytes f (entryAt (a .ranges) i))
 
 -- ---- what the inner functions cite
 

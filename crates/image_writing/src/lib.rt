@@ -1,4 +1,4 @@
-// The image of a state whose fields are lent, over a slice of its length.
+// The image of an account whose fields are lent, over a slice of its length.
 use image_parts::head::write_head;
 use image_parts::layout::ENABLED;
 use image_parts::layout::RECORD;
@@ -17,6 +17,7 @@ ghost use Rattle.image_parts.specs.Layout.{current, imageSize};
 ghost use Rattle.pool_state.specs.Lent.{was, is};
 ghost use Rattle.pool_state.specs.Shown.{pool};
 ghost use Rattle.pool_state.specs.State.{arrays};
+ghost use Rattle.account_state.specs.Account.{account};
 ghost use Rattle.image_writing.specs.Writing.{Stands, WritesRecords, imageOf};
 
 // Whether a record's bytes stand in the image already: it is not in use, and was not.
@@ -66,10 +67,11 @@ fn write_records(
     }
 }
 
-// The image of the state of these fields: each record anew, or only those that are in use or, by the image as it is, were.
+// The image of the account of these fields: each record anew, or only those that are in use or, by the image as it is, were.
 pub fn write_fields(
     image: &mut [u8],
     anew: bool,
+    lowest: u64,
     total: u64,
     first: RecordIndex,
     heads: &[u16; LISTS],
@@ -83,7 +85,7 @@ pub fn write_fields(
 )
     requires { ⌜ length (now image) ≡ imageSize current ⌝ }
     requires { ⌜ Stands current pool anew image start end enabled previous next lprev lnext ⌝ }
-    ensures { λ _. ⌜ is image ≡ imageOf current (arrays total (first .0) (was heads) (was start) (was end) (was enabled) (was previous) (was next) (was lprev) (was lnext)) ⌝ }
+    ensures { λ _. ⌜ is image ≡ imageOf current (account (arrays total (first .0) (was heads) (was start) (was end) (was enabled) (was previous) (was next) (was lprev) (was lnext)) lowest) ⌝ }
 {
     write_records(
         image,
@@ -96,5 +98,5 @@ pub fn write_fields(
         lprev,
         lnext,
     );
-    write_head(&mut image[0..RECORDS], total, first, heads, 0);
+    write_head(&mut image[0..RECORDS], total, first, heads, lowest);
 }

@@ -1,4 +1,4 @@
--- The state that is read from an image has its ranges in order. Assumes nothing.
+-- What is read from an image has its ranges in order. Assumes nothing.
 use mathlib.Core.Path.{_≡_, refl, sym, subst}
 use mathlib.Core.Bool.{Bool, true, false, _&&_}
 use mathlib.Core.List.{List}
@@ -12,6 +12,7 @@ use Rattle.core_accounts.proofs.Shows.{ordered}
 use Rattle.image_parts.specs.Layout.{current}
 use Rattle.image_reading.specs.Reading.{stateIn, framed, readable}
 use Rattle.image_reading.proofs.Whole.{state-sized}
+use Rattle.image_reading.proofs.Figure.{readable-ranges}
 use Rattle.mapper_free.specs.Free.{chainIn}
 
 second : (a b : Bool) → (a && b) ≡ true → b ≡ true
@@ -21,4 +22,4 @@ second false false e = e
 
 pub read-ordered : (l : List ℕ) (s : MemoryAllocator) → readable current l ≡ true → s ≡ stateIn current l → Ordered pool (chainIn l) (s .start) (s .end) (s .next) (s .«first_entry» .0)
 read-ordered l s r e = subst (λ (t : MemoryAllocator). Ordered pool (chainIn l) (t .start) (t .end) (t .next) (t .«first_entry» .0)) (sym e)
-    (ordered pool (lit≤ tt) (stateIn current l) (state-sized current l) (second (framed current l) (isSound pool (stateIn current l)) r))
+    (ordered pool (lit≤ tt) (stateIn current l) (state-sized current l) (second (framed current l) (isSound pool (stateIn current l)) (readable-ranges current l r)))

@@ -20,6 +20,7 @@ const PAGE: u64 = 4096;
 pub fn free_ranges(image: &[u8], starts: &mut [u64], lasts: &mut [u64]) -> Listed
     ensures { λ r. ⌜ Frees (was image) (was starts) (was lasts) r (is starts) (is lasts) ⌝ }
 {
+    let mut lowest: u64 = 0;
     let mut total: u64 = 0;
     let mut first: u16 = NONE;
     let mut heads = [NONE; LISTS];
@@ -32,6 +33,7 @@ pub fn free_ranges(image: &[u8], starts: &mut [u64], lasts: &mut [u64]) -> Liste
     let mut lnext = [NONE; POOL];
     let readable = read_current(
         image,
+        &mut lowest,
         &mut total,
         &mut first,
         &mut heads,

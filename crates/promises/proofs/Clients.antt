@@ -1,4 +1,5 @@
 -- A client whose acts make calls, or begin anew, leaves the states and the vouchers of lists of calls; so demand 3 holds of it. Assumes nothing.
+use Prim.Native.Nat.{ℕ}
 use mathlib.Core.Bool.{Bool, true, false, cond}
 use mathlib.Core.List.{List, [], _∷_, _++_}
 use mathlib.Core.Path.{_≡_, refl, sym, ap, _∙_}
@@ -6,7 +7,10 @@ use Rattle.rules.specs.Rules.{Call, Voucher}
 use Rattle.rules_engine.specs.Engine.{Engine, after, vouchers}
 use Rattle.rules_engine.specs.Demand.{left, Demand}
 use Rattle.rules_engine.proofs.Histories.{after-append, vouchers-append, carried}
+use Rattle.rules_lowest.specs.Carried.{Lowest}
+use Rattle.rules_lowest.proofs.Carried as figure
 use Rattle.promises.specs.Clients.{Client, leftBy, keptBy, ClientDemand}
+use Rattle.promises.specs.Lowest.{ClientLowest}
 
 -- what is to be shown of a client, act by act: the calls that an act makes, or that it begins anew
 pub record Plays (e : Engine) (d : Client e) : Type 0 where
@@ -55,3 +59,9 @@ module _ (e : Engine) (d : Client e) (p : Plays e d) where
   unfolding after vouchers
   client-demand =
       carried e (List Call) (List (d .Act)) (left e) (vouchers e (e .new)) (leftBy e d (e .new)) (keptBy e d (e .new) []) (since []) (acts-left []) (acts-kept [])
+
+  -- And what is promised of a figure that the states carry.
+  pub client-lowest : (low : e .State → ℕ) → Lowest e low → ClientLowest e d low
+  unfolding after vouchers
+  client-lowest low =
+      figure.carried e low (List Call) (List (d .Act)) (left e) (vouchers e (e .new)) (leftBy e d (e .new)) (keptBy e d (e .new) []) (since []) (acts-left []) (acts-kept [])

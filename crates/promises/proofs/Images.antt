@@ -1,4 +1,4 @@
--- Demand 3 of the C calls over one slice, in any order, from the last `new` on: of the single ones, and of all. Assumes nothing.
+-- Demand 3 of the C calls over one slice, and the lowest figure, in any order, from the last `new` on: of the single ones, and of all. Assumes nothing.
 use Prim.Native.Nat.{ℕ}
 use mathlib.Core.Bool.{true, false}
 use mathlib.Core.List.{List, [], _∷_}
@@ -10,35 +10,34 @@ use Rattle.rules_engine.specs.Engine.{after, vouchers}
 use Rattle.rules_engine.specs.Demand.{left}
 use Rattle.pages.specs.Calls.{byteCall}
 use Rattle.batch.specs.Histories.{callsIn, vouchersIn}
-use Rattle.image_parts.specs.Layout.{Layout, imageSize, Lawful}
-use Rattle.image_parts.proofs.Lawful.{small-pool}
+use Rattle.image_parts.specs.Layout.{Layout, imageSize, Figured}
 use Rattle.image.specs.Writing.{Image}
-use Rattle.image.proofs.Fitting.{sound-fits}
-use Rattle.image.proofs.ReadBack.{frame-back}
+use Rattle.image.proofs.Rounds.{framed-back}
 use Rattle.c_calls.specs.CCalls.{Returned, newOver}
-use Rattle.c_calls.specs.Images.{images}
-use Rattle.c_calls.proofs.Demand.{demand, new-written}
+use Rattle.c_calls.specs.Images.{images, lowestStored}
+use Rattle.c_calls.proofs.Demand.{demand, lowest, new-written}
 use Rattle.c_calls.proofs.Batches.{image-left, image-kept}
 use Rattle.promises.specs.Clients.{ClientDemand}
+use Rattle.promises.specs.Lowest.{ClientLowest}
 use Rattle.promises.specs.Images.{ImageAct, ImageNew, ImageCall, imageRenews, imageGives, imageNext, imageClient}
 use Rattle.promises.specs.AllCalls.{AnyAct, AnyNew, AnyCall, AnyPages, AnyList, anyRenews, anyGives, anyNext, anyClient}
-use Rattle.promises.proofs.Clients.{Plays, client-demand}
+use Rattle.promises.proofs.Clients.{Plays, client-demand, client-lowest}
 
-module _ (f : Layout) (lawful : Lawful f) where
-  -- the image of a sound state has the length,
+module _ (f : Layout) (full : Figured f) where
+  -- the image of a sound account has the length,
   image-sized : (m : List ℕ) → Image f m → length m ≡ imageSize f
-  image-sized m i = ap length (sym (i .bytes)) ∙ frame-back f lawful (i .state) (sound-fits (f .records) (small-pool f lawful) (i .state) (i .sound)) .sized
+  image-sized m i = ap length (sym (i .bytes)) ∙ framed-back f (full .lawful) (i .state) (i .sound) .sized
 
   -- so `new` over it leaves what `new` over any other slice of that length does
   new-again : (l m : List ℕ) → length l ≡ imageSize f → Image f m → newOver f m .bytes ≡ newOver f l .bytes
-  new-again l m sized i = ap (λ (x : Returned). x .bytes) (new-written f lawful m (image-sized m i) ∙ sym (new-written f lawful l sized))
+  new-again l m sized i = ap (λ (x : Returned). x .bytes) (new-written f full m (image-sized m i) ∙ sym (new-written f full l sized))
 
   module _ (l : List ℕ) (sized : length l ≡ imageSize f) where
     abbrev at : List Call → List ℕ
     at cs = left (images f l) cs
 
     image : (cs : List Call) → Image f (at cs)
-    image cs = demand f lawful l sized .always-sound cs
+    image cs = demand f full l sized .always-sound cs
 
     -- what `new` leaves and gives
     begins : (cs : List Call) → newOver f (at cs) .bytes ≡ newOver f l .bytes
@@ -60,7 +59,10 @@ module _ (f : Layout) (lawful : Lawful f) where
 
     -- Over whatever lies in a slice of the image's length: the call that writes the image of `new`, and then any list of acts.
     pub images-demand : ClientDemand (images f l) (imageClient f l)
-    images-demand = client-demand (images f l) (imageClient f l) (record { calls = calls; anew = anew; onward = onward }) (demand f lawful l sized)
+    images-demand = client-demand (images f l) (imageClient f l) (record { calls = calls; anew = anew; onward = onward }) (demand f full l sized)
+
+    pub images-lowest : ClientLowest (images f l) (imageClient f l) (lowestStored f)
+    images-lowest = client-lowest (images f l) (imageClient f l) (record { calls = calls; anew = anew; onward = onward }) (lowestStored f) (lowest f full l sized)
 
     -- ---- pages and lists too
 
@@ -82,7 +84,10 @@ module _ (f : Layout) (lawful : Lawful f) where
     any-onward AnyNew cs e = true≢false e
     any-onward (AnyCall c) cs e = (refl, refl)
     any-onward (AnyPages p) cs e = (refl, refl)
-    any-onward (AnyList b) cs e = (image-left f lawful l (at cs) (image cs) b, image-kept f lawful l (at cs) (image cs) b)
+    any-onward (AnyList b) cs e = (image-left f full l (at cs) (image cs) b, image-kept f full l (at cs) (image cs) b)
 
     pub all-calls-demand : ClientDemand (images f l) (anyClient f l)
-    all-calls-demand = client-demand (images f l) (anyClient f l) (record { calls = any-calls; anew = any-anew; onward = any-onward }) (demand f lawful l sized)
+    all-calls-demand = client-demand (images f l) (anyClient f l) (record { calls = any-calls; anew = any-anew; onward = any-onward }) (demand f full l sized)
+
+    pub all-calls-lowest : ClientLowest (images f l) (anyClient f l) (lowestStored f)
+    all-calls-lowest = client-lowest (images f l) (anyClient f l) (record { calls = any-calls; anew = any-anew; onward = any-onward }) (lowestStored f) (lowest f full l sized)

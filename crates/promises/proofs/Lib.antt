@@ -12,3 +12,4 @@ pub mod ScriptPromises
 pub mod PagePromises
 pub mod ListPromises
 pub mod JournalPromises
+pub mod Lowest

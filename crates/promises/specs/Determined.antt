@@ -14,6 +14,8 @@ use Rattle.calls.specs.declared.Outcome.{Outcome}
 use Rattle.core_accounts.specs.Accounts as accounts
 use Rattle.holder_rules.specs.declared.HolderAllocator.{HolderAllocator}
 use Rattle.holder_lists.specs.Accounts.{FreeLists}
+use Rattle.account_state.specs.declared.Account.{Account}
+use Rattle.account_state.specs.declared.Entered.{Entered}
 use Rattle.batch.specs.Lists.{Serves, Served}
 use Rattle.image_parts.specs.Layout.{Layout}
 use Rattle.image.specs.Reading.{Handed, handed}
@@ -50,22 +52,22 @@ pub record EachDetermined : Type 1 where
   -- the listing, also where there is a register, and a list of calls
   pub listing : (n : ℕ) (s : MemoryAllocator) (starts lasts : List ℕ) → Determined (λ (x : Counted × List ℕ × List ℕ). accounts.Lists n s starts lasts (x .0) (x .1) (x .2))
   pub free-listed : (n : ℕ) (s : HolderAllocator) (starts lasts : List ℕ) → Determined (λ (x : Counted × List ℕ × List ℕ). FreeLists n s starts lasts (x .0) (x .1) (x .2))
-  pub list-served : (n : ℕ) (s : MemoryAllocator) (l : List ℕ) (old : List ℤ) → Determined (λ (x : Outcome × List ℤ). Serves n s l old (x .0) (x .1))
-  pub sound-list-served : (n : ℕ) (s : MemoryAllocator) (l : List ℕ) (old : List ℤ) → Determined (λ (x : MemoryAllocator × List ℤ). Served n s l old (x .0) (x .1))
+  pub list-served : (n : ℕ) (s : Account) (l : List ℕ) (old : List ℤ) → Determined (λ (x : Entered × List ℤ). Serves n s l old (x .0) (x .1))
+  pub sound-list-served : (n : ℕ) (s : Account) (l : List ℕ) (old : List ℤ) → Determined (λ (x : Account × List ℤ). Served n s l old (x .0) (x .1))
   -- images
   pub image-read : (w : Handed) → Determined (λ (r : Reading). handed (r .answer) (r .state) ≡ w)
   pub image-written : (w : Written) → Determined (λ (x : ImageAnswer × List ℕ). written (x .0) (x .1) ≡ w)
   -- the C calls: the number, and every byte of the image; for a list every place too
   pub call-returned : (w : Returned) → Determined (λ (x : ℤ × List ℕ). returned (x .0) (x .1) ≡ w)
   pub batch-over : (f : Layout) (l calls : List ℕ) (old : List ℤ) → Determined (λ (x : ℤ × List ℕ × List ℤ). BatchOver f l calls old (x .0) (x .1) (x .2))
-  -- a state of one's own: the number, and the state that the ten fields make up
-  pub own-judged : (n : ℕ) (rule : Book → rules.Answer) (s : MemoryAllocator) → Determined (λ (x : ℤ × MemoryAllocator). Judged n rule (x .0) s (x .1))
-  pub own-listed : (n : ℕ) (s : MemoryAllocator) (l : List ℕ) (old : List ℤ) → Determined (λ (x : ℤ × MemoryAllocator × List ℤ). Lists n s l old (x .0) (x .1) (x .2))
-  pub own-imported : (f : Layout) (l : List ℕ) (s : MemoryAllocator) → Determined (λ (x : ℤ × MemoryAllocator). Imports f l (x .0) s (x .1))
-  pub own-exported : (f : Layout) (s : MemoryAllocator) (l : List ℕ) → Determined (λ (x : ℤ × List ℕ). Exports f s l (x .0) (x .1))
+  -- a state of one's own: the number, and the account that the eleven fields make up
+  pub own-judged : (n : ℕ) (rule : Book → rules.Answer) (s : Account) → Determined (λ (x : ℤ × Account). Judged n rule (x .0) s (x .1))
+  pub own-listed : (n : ℕ) (s : Account) (l : List ℕ) (old : List ℤ) → Determined (λ (x : ℤ × Account × List ℤ). Lists n s l old (x .0) (x .1) (x .2))
+  pub own-imported : (f : Layout) (l : List ℕ) (s : Account) → Determined (λ (x : ℤ × Account). Imports f l (x .0) s (x .1))
+  pub own-exported : (f : Layout) (s : Account) (l : List ℕ) → Determined (λ (x : ℤ × List ℕ). Exports f s l (x .0) (x .1))
   -- a figure, and a listing as C has it: the number that is returned, and what the lent places hold
   pub figure-shown : (k : Counted) (old : ℕ) → Determined (λ (x : ℤ × ℕ). shows.Figures k old (x .0) (x .1))
-  pub own-shown : (n : ℕ) (s : MemoryAllocator) (starts lasts : List ℕ) → Determined (λ (x : ℤ × List ℕ × List ℕ). shows.Lists n s starts lasts (x .0) (x .1) (x .2))
+  pub own-shown : (n : ℕ) (s : Account) (starts lasts : List ℕ) → Determined (λ (x : ℤ × List ℕ × List ℕ). shows.Lists n s starts lasts (x .0) (x .1) (x .2))
   pub image-shown : (f : Layout) (l starts lasts : List ℕ) → Determined (λ (x : ℤ × List ℕ × List ℕ). shows.ListsBy f l starts lasts (x .0) (x .1) (x .2))
   -- a text, or the bytes of a block, in a buffer
   pub text-put : (t l : List ℕ) (at : ℕ) → Determined (λ (x : List ℕ × ℕ). Puts t l at (x .0) (x .1))

@@ -2,6 +2,7 @@
 pub mod Base
 pub mod Determined
 pub mod Clients
+pub mod Lowest
 pub mod Lent
 pub mod Own
 pub mod Images

@@ -1,15 +1,15 @@
--- The calls on a state of one's own, ten lent fields, as an engine and a client of it: what they answer and leave, by the definitions that their contracts
+-- The calls on a state of one's own, eleven lent fields, as an engine and a client of it: what they answer and leave, by the definitions that their contracts
 -- cite. An export changes no field, and an import ends the history: what an image holds has one of its own. n is the number of records. Assumes nothing.
 use Prim.Native.Nat.{ℕ}
 use mathlib.Core.Bool.{Bool, true, false}
 use mathlib.Core.List.{List, [], _∷_}
 use lib.IntN.{ℤ}
 use lib.ListN.{length}
-use Rattle.rules.specs.Rules.{empty, Voucher, step}
+use Rattle.rules.specs.Rules.{Voucher, step}
 use Rattle.rules_engine.specs.Engine.{Engine}
-use Rattle.pool_state.specs.State.{stateOf}
-use Rattle.pool_state.specs.Sound.{bookOf, SoundState}
-use Rattle.pool_state.specs.declared.MemoryAllocator.{MemoryAllocator}
+use Rattle.pool_state.specs.Sound.{bookOf}
+use Rattle.account_state.specs.Account.{opened, SoundAccount}
+use Rattle.account_state.specs.declared.Account.{Account}
 use Rattle.calls.specs.Calls.{callOf, signedOf, voucherFrom}
 use Rattle.batch.specs.InWords.{ruleOf}
 use Rattle.batch.specs.Histories.{Batch, vouchersIn}
@@ -22,13 +22,13 @@ use Rattle.promises.specs.Clients.{Client}
 
 abbrev pub own : ℕ → Engine
 own n = record {
-  State = MemoryAllocator;
-  new = stateOf n empty;
+  State = Account;
+  new = opened n;
   answer = λ c s. voucherFrom c (signedOf (judgedHere n (step n c) s .answer));
   next = λ c s. judgedHere n (step n c) s .state;
-  book = bookOf n;
-  total = λ s. s .«free_size»;
-  Sound = SoundState n;
+  book = λ s. bookOf n (s .ranges);
+  total = λ s. s .ranges .«free_size»;
+  Sound = SoundAccount n;
 }
 
 -- `new`; a kind and three numbers, page calls among them; a list of calls
@@ -47,13 +47,13 @@ abbrev pub voucherIf : Asked → ℤ → List Voucher
 voucherIf (Is q) i = voucherFrom (callOf q) i ∷ []
 voucherIf Unknown i = []
 
-abbrev pub ownGives : ℕ → OwnAct → MemoryAllocator → List Voucher
+abbrev pub ownGives : ℕ → OwnAct → Account → List Voucher
 ownGives n OwnNew s = []
 ownGives n (OwnCall k x y z) s = voucherIf (askedHere k x y z) (signedOf (judgedHere n (ruleOf n (askedHere k x y z)) s .answer))
 ownGives n (OwnList b) s = vouchersIn b (answeredHere n s (b .words) (b .places))
 
-abbrev pub ownNext : ℕ → OwnAct → MemoryAllocator → MemoryAllocator
-ownNext n OwnNew s = stateOf n empty
+abbrev pub ownNext : ℕ → OwnAct → Account → Account
+ownNext n OwnNew s = opened n
 ownNext n (OwnCall k x y z) s = judgedHere n (ruleOf n (askedHere k x y z)) s .state
 ownNext n (OwnList b) s = listedHere n s (b .words) (length (b .places)) .state
 

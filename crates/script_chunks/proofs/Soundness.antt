@@ -8,10 +8,14 @@ use lib.ListN.{length, take}
 use lib.Seq.{length-take-le, take-all}
 use native.Mathlib.Omega.{arith}
 use Rattle.linked_lists.specs.Links.{none}
-use Rattle.pool_state.specs.Sound.{SoundState}
+use Rattle.rules.specs.Rules.{Call}
+use Rattle.rules_laws.proofs.Steps.{step-sound}
+use Rattle.check_meaning.proofs.Exact.{sound-passes}
+use Rattle.pool_state.specs.Sound.{bookOf, SoundState}
 use Rattle.pool_state.specs.declared.MemoryAllocator.{MemoryAllocator}
 use Rattle.calls.specs.Calls.{callOf}
-use Rattle.batch.proofs.Histories.{made-sound}
+use Rattle.core_serve.specs.Made.{judged, made}
+use Rattle.memory_allocator.proofs.Steps.{sound-held}
 use Rattle.script_lines.specs.Script.{lineOf}
 use Rattle.script_lines.specs.declared.parse.Line.{Line}
 use Rattle.script_lines.specs.declared.parse.Line.the-variants as Say
@@ -20,9 +24,13 @@ use Rattle.script_chunks.specs.Input.{Told, ends, joined, heard, Shows, 
 use Rattle.script_chunks.specs.declared.Reading.{Reading}
 
 module _ (n : ℕ) (small : n ≤ none) where
+  made-sound : (s : MemoryAllocator) → SoundState n s → (c : Call) → SoundState n (made n s c .state)
+  unfolding judged
+  made-sound s h c = rw (sound-passes n small s h) (sound-held n small _ (step-sound n (bookOf n s) c (h .book)))
+
   after-sound : (s : MemoryAllocator) (l : Line) → SoundState n s → SoundState n (stateAfter n s l)
   unfolding stateAfter
-  after-sound s (Say.Asks q) h = made-sound n small s h (callOf q)
+  after-sound s (Say.Asks q) h = made-sound s h (callOf q)
   after-sound s Say.List h = h
   after-sound s Say.Bad h = h
 

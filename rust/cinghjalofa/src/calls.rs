@@ -77,6 +77,10 @@ pub(crate) fn total(image: &[u8]) -> usize {
     figure(|figure| library::total(image, figure))
 }
 
+pub(crate) fn lowest(image: &[u8]) -> Option<usize> {
+    lowest_figure(|figure| library::lowest(image, figure))
+}
+
 pub(crate) fn is_image(image: &[u8]) -> bool {
     library::total(image, &mut 0) >= 0
 }
@@ -90,6 +94,13 @@ pub(crate) fn figure(write: impl FnOnce(&mut u64) -> i64) -> usize {
     let mut figure = 0;
     write(&mut figure);
     figure as usize
+}
+
+/// The lowest figure that a call writes; none before the first free, nor where it is refused.
+pub(crate) fn lowest_figure(write: impl FnOnce(&mut u64) -> i64) -> Option<usize> {
+    let mut figure = library::NEVER;
+    write(&mut figure);
+    (figure != library::NEVER).then_some(figure as usize)
 }
 
 /// An address, or minus the refusal number. The library gives no other number; one would mean another library, and

@@ -27,7 +27,7 @@ pub use ranges::{FreeRange, FreeRanges};
 
 use core::alloc::Layout;
 
-/// The length of an image, version 2 of its layout.
+/// The length of an image, version 3 of its layout.
 pub const IMAGE_BYTES: usize = calls::IMAGE_BYTES;
 
 /// The free ranges that there can be: each has a record.
@@ -79,8 +79,9 @@ pub fn is_sound(image: &[u8]) -> bool {
     calls::is_image(image)
 }
 
-/// The current image of the state whose image `old` is, of any version: version 1, of 64 records in 1370 bytes, or the current one, which
-/// comes out as it went in. The free ranges keep their records and their orders. `InvalidEntry` where `old` is none of a sound allocator.
+/// The current image of the state whose image `old` is, of any version: version 1, of 64 records in 1370 bytes, version 2, of 256 in 6439,
+/// or the current one, which comes out as it went in. The free ranges keep their records and their orders, and an older image gets the total as its lowest
+/// figure. `InvalidEntry` where `old` is none of a sound allocator.
 ///
 /// ```
 /// let image = cinghjalofa::MemoryAllocator::new().image();
@@ -183,6 +184,11 @@ impl<'a> LentAllocator<'a> {
     /// See [`MemoryAllocator::total`].
     pub fn total(&self) -> usize {
         calls::total(self.image)
+    }
+
+    /// See [`MemoryAllocator::lowest`].
+    pub fn lowest(&self) -> Option<usize> {
+        calls::lowest(self.image)
     }
 
     /// See [`MemoryAllocator::ranges`].

@@ -2,7 +2,7 @@
 
 use core::alloc::Layout;
 
-use crate::calls::{figure, result_of, Own, ALLOCATE, ALLOCATE_PAGES, FREE, FREE_PAGES, RESERVE};
+use crate::calls::{figure, lowest_figure, result_of, Own, ALLOCATE, ALLOCATE_PAGES, FREE, FREE_PAGES, RESERVE};
 use crate::list::{self, Call, CallAnswer};
 use crate::ranges::{self, FreeRange, FreeRanges};
 use crate::{MemoryError, IMAGE_BYTES};
@@ -196,6 +196,21 @@ impl MemoryAllocator {
         figure(|figure| self.own.total(figure))
     }
 
+    /// How near the allocator came to empty: the least number of free bytes after any accepted call since the first accepted free, of a list
+    /// after each of its calls. Nothing raises it, handing back neither. `None` before the first free, and of a state that is not sound.
+    ///
+    /// ```
+    /// let mut memory = cinghjalofa::MemoryAllocator::new();
+    /// assert_eq!(memory.lowest(), None);
+    /// memory.free(0, 0x2000).unwrap();
+    /// assert_eq!(memory.allocate(0x1000, 0), Ok(0));
+    /// memory.free(0, 0x1000).unwrap();
+    /// assert_eq!((memory.total(), memory.lowest()), (0x2000, Some(0x1000)));
+    /// ```
+    pub fn lowest(&self) -> Option<usize> {
+        lowest_figure(|figure| self.own.lowest(figure))
+    }
+
     /// The free ranges by address, as they are now; a `for` over `&memory` goes through them too.
     ///
     /// ```
@@ -305,6 +320,11 @@ impl UncheckedAllocator {
     #[inline]
     pub fn total(&self) -> usize {
         self.own.total_unchecked() as usize
+    }
+
+    /// See [`MemoryAllocator::lowest`]: the state is checked.
+    pub fn lowest(&self) -> Option<usize> {
+        lowest_figure(|figure| self.own.lowest(figure))
     }
 
     /// See [`MemoryAllocator::ranges`].

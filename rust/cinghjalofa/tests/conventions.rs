@@ -65,15 +65,15 @@ fn each_allocator_goes_into_a_loop() {
     assert!(seen.into_iter().eq((0..9).map(|k| range(k % 3))));
 }
 
-/// A damaged state shows nothing: total, ranges and listing are the proved calls', which refuse it.
+/// A damaged state shows nothing: total, lowest figure, ranges and listing are the proved calls', which refuse it.
 #[test]
 fn a_damaged_state_shows_nothing() {
     let mut memory = with_ranges(3);
-    assert_eq!((memory.total(), memory.ranges().len()), (0x30, 3));
-    // SAFETY: the byte lies in the allocator, all of whose fields are numbers.
-    unsafe { *core::ptr::addr_of_mut!(memory).cast::<u8>() ^= 1 };
+    assert_eq!((memory.total(), memory.lowest(), memory.ranges().len()), (0x30, Some(0x10), 3));
+    // SAFETY: the byte, of the total, lies in the allocator, all of whose fields are numbers.
+    unsafe { *core::ptr::addr_of_mut!(memory).cast::<u64>().add(1).cast::<u8>() ^= 1 };
     let (mut starts, mut lasts) = ([7; RECORDS], [8; RECORDS]);
-    assert_eq!((memory.total(), memory.ranges().len(), memory.is_sound()), (0, 0, false));
+    assert_eq!((memory.total(), memory.lowest(), memory.ranges().len(), memory.is_sound()), (0, None, 0, false));
     assert_eq!(memory.listing(&mut starts, &mut lasts), Err(MemoryError::InvalidEntry));
     assert_eq!((starts, lasts), ([7; RECORDS], [8; RECORDS]));
 }

@@ -9,7 +9,7 @@
 #define MOST_NUMBERS 32
 #define NONE 65535
 #define AT 12345
-#define RECORDS_AT 39
+#define RECORDS_AT 47
 #define RECORD_BYTES 25
 
 struct line {

@@ -36,18 +36,18 @@ static const struct call BAD[] = {
     {FREE_PAGES, 65536, 1, 0},
 };
 
-static const size_t WRONG_LENGTHS[] = {0, 1, 1370, IMAGE_BYTES - 1, IMAGE_BYTES + 1, 8192}; /* 1370: version 1 */
+static const size_t WRONG_LENGTHS[] = {0, 1, 1370, 6439, IMAGE_BYTES - 1, IMAGE_BYTES + 1, 8192}; /* 1370: version 1; 6439: version 2 */
 
-/* The image of the empty allocator: version 2, length of the rest, total 0, and no link anywhere. */
+/* The image of the empty allocator: version 3, length of the rest, total 0, no link anywhere, and eight bytes of 255 for the lowest figure. */
 static void write_empty_image(uint8_t *image)
 {
-    static const uint8_t HEAD[] = {2, 0, 0, 6434 / 256, 6434 % 256, 0, 0, 0, 0, 0, 0, 0, 0};
+    static const uint8_t HEAD[] = {3, 0, 0, 6442 / 256, 6442 % 256, 0, 0, 0, 0, 0, 0, 0, 0};
 
     memset(image, 0, IMAGE_BYTES);
     memcpy(image, HEAD, sizeof HEAD);
-    memset(image + sizeof HEAD, 255, 2 * (1 + 12));
+    memset(image + sizeof HEAD, 255, 2 * (1 + 12) + 8);
     for (size_t record = 0; record < 256; record++)
-        memset(image + 39 + 25 * record + 17, 255, 8);
+        memset(image + 47 + 25 * record + 17, 255, 8);
 }
 
 /* Two free ranges: 16384 bytes from 65536 and 65536 bytes from 131072. */
@@ -152,7 +152,7 @@ static void test_places(const uint8_t *sample)
 /* One byte of each field of the sample, changed; `new` takes what the others refuse. */
 static void test_damaged(const uint8_t *sample)
 {
-    static const size_t FIELDS[] = {0, 1, 4, 5, 12, 13, 14, 15, 38, 39, 54, 55, 56, 57, 58, 60, 62, 63, 89, 105, 106, 6414, 6430, 6438};
+    static const size_t FIELDS[] = {0, 1, 4, 5, 12, 13, 14, 15, 38, 39, 44, 47, 62, 63, 64, 65, 66, 68, 70, 71, 97, 113, 114, 6422, 6438, 6446};
     const size_t at = MIDDLE + 3;
 
     for (size_t i = 0; i < COUNT(FIELDS); i++) {

@@ -1,6 +1,6 @@
 //! What holds of every function for every slice: lengths, places, damaged images, and which refusal comes first.
 
-use crate::fields::Fields;
+use crate::fields::{Fields, NEVER};
 use crate::lent::{Call, Lent, IMAGE_BYTES, MOST_PAGES};
 use crate::report::Report;
 
@@ -65,7 +65,7 @@ fn refuse_lengths(lent: &mut Lent, sample: &[u8; IMAGE_BYTES], report: &mut Repo
 fn write_new(lent: &mut Lent, report: &mut Report) {
     for old in [0, 1, 0xa5, 255] {
         lent.expect(&[old; IMAGE_BYTES], Call::New, 0, "new overwrites whatever is there", report);
-        if *lent.slice() != Fields::of_ranges(&[]).write() {
+        if *lent.slice() != (Fields { lowest: NEVER, ..Fields::of_ranges(&[]) }).write() {
             report.fail("new did not write the image of the empty allocator");
         }
     }
@@ -81,7 +81,9 @@ fn answer_requests(lent: &mut Lent, sample: &[u8; IMAGE_BYTES], report: &mut Rep
 }
 
 fn refuse_damaged(lent: &mut Lent, sample: &[u8; IMAGE_BYTES], report: &mut Report) {
-    for field in [0, 1, 4, 5, 12, 13, 14, 15, 38, 39, 54, 55, 56, 57, 58, 60, 62, 63, 89, 105, 106, 6414, 6430, 6438] {
+    for field in
+        [0, 1, 4, 5, 12, 13, 14, 15, 38, 39, 44, 47, 62, 63, 64, 65, 66, 68, 70, 71, 97, 113, 114, 6422, 6438, 6446]
+    {
         let mut damaged = *sample;
         damaged[field] ^= 2;
         for (call, _) in &GOOD[1..] {

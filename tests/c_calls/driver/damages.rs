@@ -1,6 +1,6 @@
 //! Images that break one clause of "A sound state" and must be refused, and unusual ones that break none.
 
-use crate::fields::{list_number, Fields, Record, LISTS, NONE, RECORDS};
+use crate::fields::{list_number, Fields, Record, LISTS, NEVER, NONE, RECORDS};
 use crate::judge::{self, Clause};
 use crate::lent::{Call, Lent, IMAGE_BYTES};
 use crate::report::Report;
@@ -82,12 +82,22 @@ const OTHER: [(&str, Clause, Change); 17] = [
     }),
 ];
 
+/// Lowest figures that no image with ranges has.
+const LOWEST: [(&str, Clause, Change); 3] = [
+    ("the lowest figure is one above the total", Clause::Lowest, |f| f.lowest = f.total + 1),
+    ("the lowest figure says that nothing was ever offered", Clause::Lowest, |f| f.lowest = NEVER),
+    ("the lowest figure is little-endian", Clause::Lowest, |f| f.lowest = f.total.swap_bytes() | 1 << 63),
+];
+
 /// Unusual changes of the rich image that leave it sound.
-const HARMLESS: [(&str, Change); 5] = [
+const HARMLESS: [(&str, Change); 8] = [
     ("all neighbours of equal size exchanged on the lists", |f| exchange_on_lists(f, |left, right| left == right)),
     ("two records exchanged, with all that leads to them", |f| exchange_records(f, f.chain()[0], f.chain()[7])),
     ("a range moved to the first unused record", |f| exchange_records(f, f.chain()[3], f.unused()[0])),
     ("a range moved to the last record", |f| exchange_records(f, f.chain()[3], RECORDS - 1)),
+    ("the lowest figure is 0", |f| f.lowest = 0),
+    ("the lowest figure is the total", |f| f.lowest = f.total),
+    ("the lowest figure is no whole page", |f| f.lowest = 5),
     ("a range that grew by a byte, and the total with it", |f| {
         f.records[last(&f.list(LISTS - 1))].end += 1;
         f.correct_total();
@@ -122,7 +132,7 @@ pub fn run(report: &mut Report) -> Result<(), String> {
     let rich = Fields::read(&rich::build(report)?);
     let full = Fields::of_ranges(&rich::full_pool());
     let mut trial = Trial { lent: Lent::new(IMAGE_BYTES, 3), report, damaged: 0, sound: 0 };
-    for (name, clause, change) in CYCLES.into_iter().chain(CHAIN).chain(LIST).chain(OTHER) {
+    for (name, clause, change) in CYCLES.into_iter().chain(CHAIN).chain(LIST).chain(OTHER).chain(LOWEST) {
         trial.refuse(name, clause, &changed(&rich, change));
     }
     for (name, clause, change) in CYCLES {
@@ -137,6 +147,11 @@ pub fn run(report: &mut Report) -> Result<(), String> {
     for (name, ranges) in SOUND_RANGES {
         trial.accept(name, &Fields::of_ranges(ranges));
     }
+    for lowest in [1, 4096, NEVER - 1] {
+        let fields = Fields { lowest, ..Fields::of_ranges(&[]) };
+        trial.refuse(&format!("no range and the lowest figure {lowest}"), Clause::Lowest, &fields);
+    }
+    trial.accept("no range, and none ever", &Fields { lowest: NEVER, ..Fields::of_ranges(&[]) });
     trial.accept("all records used", &full);
     trial.list_limits();
     trial.orders_of_equals();

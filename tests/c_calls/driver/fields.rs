@@ -6,13 +6,16 @@ pub const RECORDS: usize = 256;
 pub const LISTS: usize = 12;
 pub const NONE: u16 = 65535;
 
-pub const VERSION: u8 = 2;
-pub const REST: u32 = 6434;
+pub const VERSION: u8 = 3;
+pub const REST: u32 = 6442;
+/// the lowest figure before the first accepted free
+pub const NEVER: u64 = u64::MAX;
 
 pub const TOTAL_AT: usize = 5;
 pub const FIRST_AT: usize = 13;
 pub const HEADS_AT: usize = 15;
-pub const RECORDS_AT: usize = 39;
+pub const LOWEST_AT: usize = 39;
+pub const RECORDS_AT: usize = 47;
 pub const RECORD_BYTES: usize = 25;
 pub const LINKS_AT: usize = 17;
 pub const LINK_BYTES: usize = 2;
@@ -45,6 +48,7 @@ pub struct Fields {
     pub total: u64,
     pub first: u16,
     pub heads: [u16; LISTS],
+    pub lowest: u64,
     pub records: [Record; RECORDS],
 }
 
@@ -61,6 +65,7 @@ impl Fields {
             total: number(&image[TOTAL_AT..]),
             first: link_at(image, FIRST_AT),
             heads: [NONE; LISTS],
+            lowest: number(&image[LOWEST_AT..]),
             records: [FRESH; RECORDS],
         };
         for (list, head) in fields.heads.iter_mut().enumerate() {
@@ -86,7 +91,8 @@ impl Fields {
         image[1..TOTAL_AT].copy_from_slice(&self.rest.to_be_bytes());
         image[TOTAL_AT..FIRST_AT].copy_from_slice(&self.total.to_be_bytes());
         put_links(&mut image[FIRST_AT..HEADS_AT], &[self.first]);
-        put_links(&mut image[HEADS_AT..RECORDS_AT], &self.heads);
+        put_links(&mut image[HEADS_AT..LOWEST_AT], &self.heads);
+        image[LOWEST_AT..RECORDS_AT].copy_from_slice(&self.lowest.to_be_bytes());
         for (record, bytes) in self.records.iter().zip(image[RECORDS_AT..].chunks_mut(RECORD_BYTES)) {
             bytes[..8].copy_from_slice(&record.start.to_be_bytes());
             bytes[8..16].copy_from_slice(&record.end.to_be_bytes());
@@ -96,11 +102,18 @@ impl Fields {
         image
     }
 
-    /// An image that is right in all but, perhaps, the ranges: records 0, 1, .. hold them, chained in the order given.
+    /// An image that is right in all but, perhaps, the ranges: records 0, 1, .. hold them, chained in the order given. The lowest figure is the total.
     pub fn of_ranges(ranges: &[(u64, u64)]) -> Fields {
         let no_links = [NONE; LISTS];
-        let mut fields =
-            Fields { version: VERSION, rest: REST, total: 0, first: NONE, heads: no_links, records: [FRESH; RECORDS] };
+        let mut fields = Fields {
+            version: VERSION,
+            rest: REST,
+            total: 0,
+            first: NONE,
+            heads: no_links,
+            lowest: 0,
+            records: [FRESH; RECORDS],
+        };
         for (record, &(start, end)) in fields.records.iter_mut().zip(ranges) {
             *record = Record { start, end, enabled: 1, ..FRESH };
         }
@@ -113,6 +126,7 @@ impl Fields {
             fields.link_list(list, &members);
         }
         fields.correct_total();
+        fields.lowest = fields.total;
         fields
     }
 

@@ -1,12 +1,12 @@
-//! A judge of soundness that knows nothing of the library: document 01's "A sound state", clause by clause.
+//! A judge of soundness that knows nothing of the library: document 01's "A sound state", clause by clause, and request T-08's.
 
-use crate::fields::{list_number, Fields, Record, FRESH, LISTS, NONE, RECORDS, REST, VERSION};
+use crate::fields::{list_number, Fields, Record, FRESH, LISTS, NEVER, NONE, RECORDS, REST, VERSION};
 use crate::lent::IMAGE_BYTES;
 
 /// The clauses, in the order in which the judge looks at them.
 #[derive(Clone, Copy, PartialEq, Eq, Debug)]
 pub enum Clause {
-    /// version 2, length of the rest 6434, enabled bytes 0 or 1
+    /// version 3, length of the rest 6442, enabled bytes 0 or 1
     Layout,
     /// first, heads and links are none or 0 to 255
     LinkNumber,
@@ -28,6 +28,8 @@ pub enum Clause {
     ListPrev,
     /// the total is the sum of sizes
     Total,
+    /// the lowest figure is not above the total, or nothing is free and it is 2^64-1
+    Lowest,
 }
 
 /// The first clause that the image breaks; none for a sound image.
@@ -45,7 +47,8 @@ fn judge(fields: &Fields) -> Result<(), Clause> {
     judge_chain(fields)?;
     judge_lists(fields)?;
     let used = fields.records.iter().filter(|record| record.enabled == 1);
-    require(fields.total as u128 == used.map(|record| record.size() as u128).sum(), Clause::Total)
+    require(fields.total as u128 == used.map(|record| record.size() as u128).sum(), Clause::Total)?;
+    require(fields.lowest <= fields.total || (fields.first == NONE && fields.lowest == NEVER), Clause::Lowest)
 }
 
 fn judge_records(fields: &Fields) -> Result<(), Clause> {

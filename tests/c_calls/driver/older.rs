@@ -1,7 +1,8 @@
-//! Images of version 1, as document 01 has them: 64 records, a byte for a link, 255 for none. An upgrade gives the current image of the same
-//! ranges, in the same records and orders; every one-byte change is refused or is sound by the judge.
+//! Images of version 1, as document 01 has them: 64 records, a byte for a link, 255 for none; and of version 2, which lacks the lowest figure alone. An upgrade
+//! gives the current image of the same ranges, in the same records and orders, with the total as the lowest figure; every one-byte change of version 1, and of
+//! the head of version 2, is refused or is sound by the judge.
 
-use crate::fields::{Fields, Record, FRESH, LISTS, NONE, RECORDS, REST, VERSION};
+use crate::fields::{Fields, Record, FRESH, LISTS, NEVER, NONE, RECORDS, RECORDS_AT, REST, VERSION};
 use crate::judge;
 use crate::lent::IMAGE_BYTES;
 use crate::report::Report;
@@ -15,12 +16,18 @@ const OLD_RECORDS_AT: usize = 26;
 const OLD_RECORD_BYTES: usize = 21;
 const OLD_NONE: u8 = 255;
 
+const SECOND_BYTES: usize = 6439;
+const SECOND_REST: u32 = 6434;
+const SECOND_RECORDS_AT: usize = 39;
+
 type Old = [u8; OLD_BYTES];
+type Second = [u8; SECOND_BYTES];
 
 pub fn run(report: &mut Report) -> Result<(), String> {
     let rich = Fields::read(&rich::build(report)?);
     let kinds = [
         ("the empty image", Fields::of_ranges(&[])),
+        ("an image that was never offered anything", Fields { lowest: NEVER, ..Fields::of_ranges(&[]) }),
         ("one range", Fields::of_ranges(&[(65536, 131071)])),
         ("all bytes", Fields::of_ranges(&[(0, rich::TOP - 1)])),
         ("the rich image", rich),
@@ -28,13 +35,16 @@ pub fn run(report: &mut Report) -> Result<(), String> {
     ];
     for (name, fields) in &kinds {
         let old = narrowed(fields).ok_or_else(|| format!("{name} uses a record that version 1 has not"))?;
-        expect(report, &old, Some(fields), name);
+        let told = Fields { lowest: fields.total, ..fields.clone() };
+        expect(report, &old, Some(&told), name);
+        expect(report, &without_figure(fields), Some(&told), &format!("{name}, of version 2"));
         expect(report, &fields.write(), Some(fields), &format!("{name}, of the current version"));
     }
-    lengths(report, &kinds[3].1);
-    goes_on(report, &kinds[4].1);
-    for (name, fields) in &kinds[3..] {
+    lengths(report, &kinds[4].1);
+    goes_on(report, &kinds[5].1);
+    for (name, fields) in &kinds[4..] {
         sweep(report, name, fields);
+        sweep_head(report, name, fields);
     }
     Ok(())
 }
@@ -58,11 +68,19 @@ fn lengths(report: &mut Report, fields: &Fields) {
     expect(report, &long, None, "version 1 in the length of now");
     let mut renamed = old;
     renamed[0] = VERSION;
-    expect(report, &renamed, None, "version 1 that says 2");
-    for number in [0, 3, 255] {
+    expect(report, &renamed, None, "version 1 that says 3");
+    for number in [0, 2, 4, 255] {
         renamed[0] = number;
         expect(report, &renamed, None, "another version");
     }
+    let mut second = without_figure(fields);
+    for number in [0, 1, VERSION, 255] {
+        second[0] = number;
+        expect(report, &second, None, "version 2 that says another");
+    }
+    let mut now = fields.write();
+    now[0] = 2;
+    expect(report, &now, None, "the current version that says 2");
     for end in [0, 1, 5, OLD_BYTES - 1] {
         expect(report, &old[..end], None, "a part of an image");
     }
@@ -91,6 +109,45 @@ fn sweep(report: &mut Report, name: &str, fields: &Fields) {
         }
     }
     println!("version 1, {name}, one byte changed: {tried} images, {sound} sound, the others refused");
+}
+
+/// The head of version 2 with each of its bytes changed.
+fn sweep_head(report: &mut Report, name: &str, fields: &Fields) {
+    let old = without_figure(fields);
+    for at in 0..SECOND_RECORDS_AT {
+        for value in (0..=255).filter(|&value| value != old[at]) {
+            if report.is_enough() {
+                return;
+            }
+            let mut changed = old;
+            changed[at] = value;
+            let wide = with_total(&changed).filter(|wide| judge::is_sound(&wide.write()));
+            expect(report, &changed, wide.as_ref(), &format!("version 2, {name} with byte {at} = {value}"));
+        }
+    }
+}
+
+/// The bytes of version 2.
+fn without_figure(fields: &Fields) -> Second {
+    let mut old = [0; SECOND_BYTES];
+    let image = fields.write();
+    old[..SECOND_RECORDS_AT].copy_from_slice(&image[..SECOND_RECORDS_AT]);
+    old[SECOND_RECORDS_AT..].copy_from_slice(&image[RECORDS_AT..]);
+    old[0] = 2;
+    old[1..5].copy_from_slice(&SECOND_REST.to_be_bytes());
+    old
+}
+
+/// The fields of bytes of version 2, right or wrong; nothing where version or length is another.
+fn with_total(old: &Second) -> Option<Fields> {
+    if old[0] != 2 || old[1..5] != SECOND_REST.to_be_bytes() {
+        return None;
+    }
+    let mut image = [0; IMAGE_BYTES];
+    image[..SECOND_RECORDS_AT].copy_from_slice(&old[..SECOND_RECORDS_AT]);
+    image[RECORDS_AT..].copy_from_slice(&old[SECOND_RECORDS_AT..]);
+    let fields = Fields { version: VERSION, rest: REST, ..Fields::read(&image) };
+    Some(Fields { lowest: fields.total, ..fields })
 }
 
 /// An upgrade gives these fields, or is refused and changes no byte.
@@ -140,6 +197,7 @@ fn widened(old: &Old) -> Option<Fields> {
         total: number(&old[5..]),
         first: link(old[13]),
         heads: [NONE; LISTS],
+        lowest: number(&old[5..]),
         records: [FRESH; RECORDS],
     };
     for (head, &byte) in fields.heads.iter_mut().zip(&old[14..OLD_RECORDS_AT]) {

@@ -2,7 +2,7 @@
 //! of the others' each bit. The judge says whether the changed image is still sound; then no call may answer -2,
 //! and otherwise every call must, and change no byte.
 
-use crate::fields::{Fields, FIRST_AT, LINKS_AT, LINK_BYTES, RECORDS_AT, RECORD_BYTES};
+use crate::fields::{Fields, FIRST_AT, LINKS_AT, LINK_BYTES, LOWEST_AT, NEVER, RECORDS_AT, RECORD_BYTES};
 use crate::judge;
 use crate::lent::{Call, Lent, IMAGE_BYTES};
 use crate::report::Report;
@@ -12,7 +12,7 @@ type Image = [u8; IMAGE_BYTES];
 
 pub fn run(report: &mut Report) -> Result<(), String> {
     let rich = rich::build(report)?;
-    let empty = Fields::of_ranges(&[]).write();
+    let empty = Fields { lowest: NEVER, ..Fields::of_ranges(&[]) }.write();
     let full = Fields::of_ranges(&rich::full_pool()).write();
     let mut sweep = Sweep { lent: Lent::new(IMAGE_BYTES, 7), report, images: 0, sound: 0, refused: 0 };
     sweep.one_byte("the rich image", &rich, &every_call());
@@ -95,7 +95,7 @@ impl Sweep<'_> {
             (LINKS_AT..RECORD_BYTES).step_by(LINK_BYTES).map(move |at| RECORDS_AT + RECORD_BYTES * record + at)
         };
         let records = used.into_iter().chain([first_unused]);
-        let links: Vec<usize> = (FIRST_AT..RECORDS_AT).step_by(LINK_BYTES).chain(records.flat_map(of_record)).collect();
+        let links: Vec<usize> = (FIRST_AT..LOWEST_AT).step_by(LINK_BYTES).chain(records.flat_map(of_record)).collect();
         for (place, &one) in links.iter().enumerate() {
             for &other in &links[place + 1..] {
                 let mut changed = *image;

@@ -4,6 +4,7 @@ use crate::bench::{Bench, NoRuling, Ruling};
 use crate::broken::Breakage;
 use crate::call::{Answer, Call};
 use crate::domain::Outside;
+use crate::image;
 use crate::kind::Kind;
 use crate::port::Port;
 
@@ -63,10 +64,11 @@ impl Players {
         }
     }
 
-    /// The Rust refuses to give its last bytes; the port gives them, and its image is that of the empty allocator, byte for byte.
+    /// The Rust refuses to give its last bytes; the port gives them, and its image is that of the empty allocator, byte for byte, but for the lowest
+    /// figure, which is 0 then.
     fn empties(&self, call: Call, habit: u8, address: u64) -> Result<(), String> {
         self.bench.refuses_by_habit(call, habit)?;
-        if self.accepting(call, address)?.image != Port::new().image {
+        if self.accepting(call, address)?.image != image::with_lowest(Port::new().image, 0) {
             return Err("the last bytes are out, and the image of the port is not that of a new one".to_string());
         }
         Ok(())

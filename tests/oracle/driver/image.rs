@@ -1,16 +1,17 @@
-//! The byte image, version 2, read into a shape and written from one.
+//! The byte image, version 3, read into a shape and written from one. The module has no lowest figure: what is written has the total for it.
 
 use crate::shape::{Record, Shape, FRESH, LISTS, NONE, RECORDS};
 
 pub const IMAGE: usize = RECORDS_AT + RECORDS * RECORD;
 
-const VERSION: u8 = 2;
+const VERSION: u8 = 3;
 const REST_AT: usize = 1;
 const TOTAL_AT: usize = 5;
 const FIRST_AT: usize = 13;
 const LINK: usize = 2;
 const HEADS_AT: usize = FIRST_AT + LINK;
-const RECORDS_AT: usize = HEADS_AT + LINK * LISTS;
+const LOWEST_AT: usize = HEADS_AT + LINK * LISTS;
+const RECORDS_AT: usize = LOWEST_AT + 8;
 const LINKS_AT: usize = 17;
 const RECORD: usize = LINKS_AT + 4 * LINK;
 const LINK_NONE: u16 = 65535;
@@ -48,6 +49,7 @@ pub fn write(shape: &Shape) -> Image {
     for (list, &head) in shape.heads.iter().enumerate() {
         put_link(&mut image, HEADS_AT + LINK * list, head);
     }
+    image = with_lowest(image, shape.total);
     for (at, record) in shape.records.iter().enumerate() {
         let bytes = &mut image[RECORDS_AT + at * RECORD..][..RECORD];
         bytes[0..8].copy_from_slice(&record.start.to_be_bytes());
@@ -58,6 +60,12 @@ pub fn write(shape: &Shape) -> Image {
             put_link(bytes, LINKS_AT + LINK * place, link);
         }
     }
+    image
+}
+
+/// The same image with this lowest figure.
+pub fn with_lowest(mut image: Image, lowest: u64) -> Image {
+    image[LOWEST_AT..RECORDS_AT].copy_from_slice(&lowest.to_be_bytes());
     image
 }
 

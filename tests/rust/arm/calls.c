@@ -9,7 +9,7 @@ typedef unsigned long size_t;
 typedef unsigned long uint64_t;
 typedef long int64_t;
 
-enum { IMAGE = 6439, CALLS_IN_A_ROUND = 2000 };
+enum { IMAGE = 6447, CALLS_IN_A_ROUND = 2000 };
 enum { ENTRIES = 64, ENTRY = 17, HOLDERS_IMAGE = 5 + ENTRIES * ENTRY + IMAGE };
 
 #ifndef ROUNDS
@@ -28,23 +28,23 @@ int64_t cinghjalofa_holders_allocate(uint8_t *image, size_t len, uint64_t holder
 int64_t cinghjalofa_holders_reserve_memory(uint8_t *image, size_t len, uint64_t holder, uint64_t start, uint64_t size, uint64_t order);
 int64_t cinghjalofa_holders_free(uint8_t *image, size_t len, uint64_t holder, uint64_t start, uint64_t size);
 
-#define FIELDS uint64_t *, uint16_t *, uint16_t *, uint64_t *, uint64_t *, uint8_t *, uint16_t *, uint16_t *, uint16_t *, uint16_t *
+#define FIELDS uint64_t *, uint64_t *, uint16_t *, uint16_t *, uint64_t *, uint64_t *, uint8_t *, uint16_t *, uint16_t *, uint16_t *, uint16_t *
 void cinghjalofa_fields_new(FIELDS);
 int64_t cinghjalofa_fields_call(FIELDS, uint64_t kind, uint64_t x, uint64_t y, uint64_t z);
 int64_t cinghjalofa_fields_call_unchecked(FIELDS, uint64_t kind, uint64_t x, uint64_t y, uint64_t z);
 int64_t cinghjalofa_fields_import(FIELDS, const uint8_t *image, size_t len);
-int64_t cinghjalofa_fields_export(uint64_t total, uint16_t first, const uint16_t *, const uint64_t *, const uint64_t *, const uint8_t *,
+int64_t cinghjalofa_fields_export(uint64_t lowest, uint64_t total, uint16_t first, const uint16_t *, const uint64_t *, const uint64_t *, const uint8_t *,
                                   const uint16_t *, const uint16_t *, const uint16_t *, const uint16_t *, uint8_t *image, size_t len);
 
 struct own {
-    uint64_t total, start[256], end[256];
+    uint64_t lowest, total, start[256], end[256];
     uint16_t first, heads[12], previous[256], next[256], list_prev[256], list_next[256];
     uint8_t enabled[256];
 };
 
-#define LENT(own) &(own)->total, &(own)->first, (own)->heads, (own)->start, (own)->end, (own)->enabled, (own)->previous, (own)->next, \
+#define LENT(own) &(own)->lowest, &(own)->total, &(own)->first, (own)->heads, (own)->start, (own)->end, (own)->enabled, (own)->previous, (own)->next, \
     (own)->list_prev, (own)->list_next
-#define SHOWN(own) (own)->total, (own)->first, (own)->heads, (own)->start, (own)->end, (own)->enabled, (own)->previous, (own)->next, \
+#define SHOWN(own) (own)->lowest, (own)->total, (own)->first, (own)->heads, (own)->start, (own)->end, (own)->enabled, (own)->previous, (own)->next, \
     (own)->list_prev, (own)->list_next
 
 struct call {

@@ -1,7 +1,6 @@
 use lib.Dec.{lit≤}
 use Rattle.pool_state.specs.Shown.{pool}
-use Rattle.pool_state.proofs.Book.{sound-holds}
-use Rattle.check_meaning.proofs.Exact.{passes-sound}
+use Rattle.account_state.proofs.Exact.{passes-sound}
 use Rattle.check_meaning.proofs.Owned.{owned-sized}
 use borrow.Author.Needs.{needs}
 use Rattle.batch.proofs.serve_list_sound.Statement.{statement}
@@ -9,9 +8,9 @@ use Rattle.batch.proofs.serve_list_sound.Tie as tie
 
 serve-list-in-requires : tie.Need-serve-list-in-requires
 serve-list-in-requires c κs =
-    let lent = c .before .before .before .before .before .before .before .before .before .before in
-    let start = lent .before .before .before .before .before .before .before .before .before .before in
-    ((_, sound-holds pool _ (passes-sound pool (lit≤ tt) _ (owned-sized _ _ (start .good .0)) (start .pre .0))), start .pre .1)
+    let lent = c .before .before .before .before .before .before .before .before .before .before .before in
+    let start = lent .before .before .before .before .before .before .before .before .before .before .before in
+    (passes-sound pool (lit≤ tt) _ (owned-sized _ _ (start .good .0 .1 .1 .0)) (start .pre .0), start .pre .1)
 
 same-length : tie.Need-same-length
 same-length c = search needs

@@ -1,7 +1,7 @@
 use mathlib.Core.Path.{sym, _∙_}
 use Rattle.pool_state.specs.Shown.{pool}
 use Rattle.pool_state.proofs.States.{fresh-state}
-use Rattle.core_accounts.specs.Accounts.{totalOf}
+use Rattle.account_calls.specs.Accounts.{totalOf}
 use Rattle.image_parts.specs.Layout.{current}
 use Rattle.image_parts.proofs.Lawful.{lawful-current}
 use Rattle.door_accounts.proofs.Ways.{unreadable-total, total-in}

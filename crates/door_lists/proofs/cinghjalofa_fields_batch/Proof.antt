@@ -15,7 +15,7 @@ list-fits-requires c κs = search needs
 serve-list-in-requires : tie.Need-serve-list-in-requires
 serve-list-in-requires c κs =
     let lent = c .before .before .before .before .before in
-    let fitting = lent .before .before .before .before .before .before in
+    let fitting = lent .before .before .before .before .before .before .before in
     let tested = fitting .before in
     let here = tested .before in
     (held-here pool (lit≤ tt) _ (sym (here .before .is-sound-lent .ensures) ∙ here .if1 .taken), sym (tested .list-fits .ensures) ∙ fitting .if2 .taken)
@@ -27,7 +27,7 @@ returns : tie.Need-returns
 returns c =
     let served = c .before in
     let lent = served .before .before .before .before .before .before in
-    let fitting = lent .before .before .before .before .before .before in
+    let fitting = lent .before .before .before .before .before .before .before in
     let tested = fitting .before in
     let here = tested .before in
     let on = sym (here .before .is-sound-lent .ensures) ∙ here .if1 .taken in

@@ -1,4 +1,5 @@
-use mathlib.Core.Path.{sym, _∙_}
+use mathlib.Core.Path.{sym, ap, _∙_}
+use Rattle.account_state.specs.declared.Account.{Account}
 use Rattle.image_parts.specs.Layout.{current}
 use Rattle.door_lists.proofs.Ways.{import-done, import-refused}
 use borrow.Author.Needs.{needs}
@@ -13,13 +14,13 @@ clear-requires c κs = search needs
 
 read-current-requires : tie.Need-read-current-requires
 read-current-requires c κs =
-    let cleared = c .before .before .before .before .before .before .before .before .before .before in
-    cleared .clear .ensures
+    let cleared = c .before .before .before .before .before .before .before .before .before .before .before in
+    ap (λ (a : Account). a .ranges) (cleared .clear .ensures)
 
 returns : tie.Need-returns
 returns c =
-    let cleared = c .before .before .before .before .before .before .before .before .before .before .before in
-    let here = cleared .before .before .before .before .before .before .before .before .before .before .before in
+    let cleared = c .before .before .before .before .before .before .before .before .before .before .before .before in
+    let here = cleared .before .before .before .before .before .before .before .before .before .before .before .before in
     let on = sym (here .before .is-image .ensures) ∙ here .if1 .taken in
     let read = c .read-current .ensures in
     import-done current _ _ on _ (read .state (read .told ∙ on))

@@ -14,7 +14,7 @@ is-sound-lent-requires c κs = search needs
 cinghjalofa-fields-call-unchecked-requires : tie.Need-cinghjalofa-fields-call-unchecked-requires
 cinghjalofa-fields-call-unchecked-requires c κs =
     let lent = c .before .before .before .before .before in
-    let here = lent .before .before .before .before .before in
+    let here = lent .before .before .before .before .before .before in
     sound-here pool (lit≤ tt) _ (ruleOf pool (askedHere 0 0 0 0)) (sym (here .before .is-sound-lent .ensures) ∙ here .if1 .taken)
 
 returns : tie.Need-returns

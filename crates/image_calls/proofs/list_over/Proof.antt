@@ -12,7 +12,7 @@ read-current-requires c κs = fresh-state pool
 
 serve-held-requires : tie.Need-serve-held-requires
 serve-held-requires c κs =
-    let reads = c .before .before .before .before .before .before .before .before .before .before .before .before in
+    let reads = c .before .before .before .before .before .before .before .before .before .before .before .before .before in
     let read = reads .before .read-current .ensures in
     record { serves = sym (read .told) ∙ reads .if1 .taken; state = read .state (reads .if1 .taken) }
 

@@ -1,7 +1,7 @@
 use mathlib.Core.Path.{sym, _∙_}
 use Rattle.image_parts.specs.Layout.{current}
 use Rattle.image_parts.proofs.Lawful.{lawful-current}
-use Rattle.image_calls.proofs.Lists.{held-sized, held-holds, list-unfitted, list-stands, list-written}
+use Rattle.image_calls.proofs.Lists.{held-sized, held-sound, list-unfitted, list-stands, list-written}
 use borrow.Author.Needs.{needs}
 use Rattle.image_calls.proofs.serve_held.Statement.{statement}
 use Rattle.image_calls.proofs.serve_held.Tie as tie
@@ -11,15 +11,15 @@ list-fits-requires c κs = search needs
 
 serve-list-in-requires : tie.Need-serve-list-in-requires
 serve-list-in-requires c κs =
-    let fitting = c .before .before .before .before .before .before .before .before .before .before .before in
+    let fitting = c .before .before .before .before .before .before .before .before .before .before .before .before in
     let tested = fitting .before in
     let start = tested .before .before .before in
-    ((_, held-holds current _ (start .args .calls .now) (start .args .answers .now) _ (start .pre) lawful-current), sym (tested .list-fits .ensures) ∙ fitting .if1 .taken)
+    (held-sound current _ (start .args .calls .now) (start .args .answers .now) _ (start .pre) lawful-current, sym (tested .list-fits .ensures) ∙ fitting .if1 .taken)
 
 write-fields-requires : tie.Need-write-fields-requires
 write-fields-requires c κs =
-    let served = c .before .before .before .before .before .before .before .before .before .before .before .before in
-    let fitting = served .before .before .before .before .before .before .before .before .before .before .before .before in
+    let served = c .before .before .before .before .before .before .before .before .before .before .before .before .before in
+    let fitting = served .before .before .before .before .before .before .before .before .before .before .before .before .before in
     let tested = fitting .before in
     let known = tested .before .before in
     let start = known .before in (
@@ -37,8 +37,8 @@ same-length-2 c = search needs
 returns : tie.Need-returns
 returns c =
     let written = c .before .before in
-    let served = written .before .before .before .before .before .before .before .before .before .before .before .before .before in
-    let fitting = served .before .before .before .before .before .before .before .before .before .before .before .before in
+    let served = written .before .before .before .before .before .before .before .before .before .before .before .before .before .before in
+    let fitting = served .before .before .before .before .before .before .before .before .before .before .before .before .before in
     let tested = fitting .before in
     let start = tested .before .before .before in
     list-written current _ _ _ _ (start .pre) lawful-current (sym (tested .list-fits .ensures) ∙ fitting .if1 .taken) _ _ (served .serve-list-in .ensures) _ (written .write-fields .ensures)

@@ -15,14 +15,14 @@ layout-of-requires c κs = tt
 
 read-fields-requires : tie.Need-read-fields-requires
 read-fields-requires c κs =
-    let told = c .before .before .before .before .before .before .before .before .before .before in
+    let told = c .before .before .before .before .before .before .before .before .before .before .before in
     let start = told .before .before .before .before in
     (housed-told _ (start .args .old .now) (told .layout-of .ensures), fresh-state pool)
 
 write-fields-requires : tie.Need-write-fields-requires
 write-fields-requires c κs =
     let taken = c .before .before .before .before .before .before .before .before .before in
-    let told = taken .before .before .before .before .before .before .before .before .before .before .before .before in
+    let told = taken .before .before .before .before .before .before .before .before .before .before .before .before .before in
     (told .before .if1 .left, λ e. true≢false e)
 
 same-length : tie.Need-same-length
@@ -32,14 +32,14 @@ returns-2 : tie.Need-returns-2
 returns-2 c =
     let wrote = c .before .before in
     let taken = wrote .before .before .before .before .before .before .before .before .before .before in
-    let told = taken .before .before .before .before .before .before .before .before .before .before .before .before in
+    let told = taken .before .before .before .before .before .before .before .before .before .before .before .before .before in
     let start = told .before .before .before .before in
     let read = by-told _ (start .args .old .now) _ _ (told .layout-of .ensures) (taken .before .read-fields .ensures) in
     written-anew (start .args .old .now) _ (told .before .if1 .left) _ _ read (taken .if2 .taken) _ (wrote .write-fields .ensures)
 
 returns-3 : tie.Need-returns-3
 returns-3 c =
-    let told = c .before .before .before .before .before .before .before .before .before .before .before .before in
+    let told = c .before .before .before .before .before .before .before .before .before .before .before .before .before in
     let start = told .before .before .before .before in
     let read = by-told _ (start .args .old .now) _ _ (told .layout-of .ensures) (c .before .read-fields .ensures) in
     no-image (start .args .old .now) _ (told .before .if1 .left) _ _ read (c .if2 .left)

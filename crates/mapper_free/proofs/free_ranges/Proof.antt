@@ -1,4 +1,5 @@
-use mathlib.Core.Path.{_≡_, refl, sym, _∙_}
+use mathlib.Core.Path.{_≡_, refl, sym, ap, _∙_}
+use Rattle.account_state.specs.declared.Account.{Account}
 use Rattle.pool_state.specs.Shown.{pool}
 use Rattle.pool_state.proofs.States.{fresh-state}
 use Rattle.linked_lists.proofs.Laws.{true≢false}
@@ -14,7 +15,7 @@ list-in-requires : tie.Need-list-in-requires
 list-in-requires c κs =
     let then = c .before .before .before .before .before in
     let read = then .before .read-current .ensures in
-    (_, read-ordered _ _ (sym (read .told) ∙ then .if1 .taken) (read .state (then .if1 .taken)))
+    (_, read-ordered _ _ (sym (read .told) ∙ then .if1 .taken) (ap (λ (a : Account). a .ranges) (read .state (then .if1 .taken))))
 
 same-length : tie.Need-same-length
 same-length c = search needs
@@ -28,7 +29,7 @@ returns c =
     let then = listed .before .before .before .before .before .before in
     let read = then .before .read-current .ensures in
     let good = sym (read .told) ∙ then .if1 .taken in
-    record { unsound = λ bad. absurd (true≢false (sym good ∙ bad)); sound = λ _. listed .list-in .ensures _ (read-ordered _ _ good (read .state (then .if1 .taken))) }
+    record { unsound = λ bad. absurd (true≢false (sym good ∙ bad)); sound = λ _. listed .list-in .ensures _ (read-ordered _ _ good (ap (λ (a : Account). a .ranges) (read .state (then .if1 .taken)))) }
 
 returns-2 : tie.Need-returns-2
 returns-2 c = record { unsound = λ _. refl; sound = λ good. absurd (true≢false (sym good ∙ sym (c .before .read-current .ensures .told) ∙ c .if1 .left)) }

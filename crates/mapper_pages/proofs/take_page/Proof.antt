@@ -5,7 +5,7 @@ use mir.Syntax.{w64}
 use mir.Val.{toZ, ofZ}
 use mir.Facts.{toZ-ofZ}
 use Rattle.image_parts.specs.Layout.{current}
-use Rattle.image_parts.proofs.Lawful.{lawful-current}
+use Rattle.image_parts.proofs.Lawful.{figured-current}
 use Rattle.batch.specs.InWords.{wordsOf}
 use Rattle.calls.specs.declared.Request.the-variants.{Allocate}
 use Rattle.c_calls.specs.CCalls.{returned}
@@ -42,7 +42,7 @@ returns : tie.Need-returns
 returns c =
     let called = c .before .before .before .before in
     let known = called .before .before .before .before .before in
-    list-refused current lawful-current _ (λ i b. known .slice-known .given i .fits) (Allocate 4096 12) _ _ _ (listed called) (c .if1 .taken) ∙ page-call (known .before .args .image .now)
+    list-refused current figured-current _ (λ i b. known .slice-known .given i .fits) (Allocate 4096 12) _ _ _ (listed called) (c .if1 .taken) ∙ page-call (known .before .args .image .now)
 
 array-copy-out-result : tie.Need-array-copy-out-result
 array-copy-out-result c = search needs
@@ -56,7 +56,7 @@ returns-2 c =
     let called = tested .before .before .before .before in
     let known = called .before .before .before .before .before in
     ap (λ (i : ℤ). returned i (called .list-over .last .0)) (toZ-ofZ {w = w64} (record { sfits = c .result .given }))
-    ∙ list-served current lawful-current _ (λ i b. known .slice-known .given i .fits) (Allocate 4096 12) _ _ _ (listed called) (tested .if1 .left)
+    ∙ list-served current figured-current _ (λ i b. known .slice-known .given i .fits) (Allocate 4096 12) _ _ _ (listed called) (tested .if1 .left)
     ∙ page-call (known .before .args .image .now)
 
 pub take-page-spec : {M : Type 1} → statement M

@@ -7,7 +7,7 @@ use mir.Facts.{toZ-ofZ}
 use lib.ListN.{length, length-set}
 use Rattle.pool_state.specs.Shown.{pool}
 use Rattle.pool_state.specs.State.{arrays}
-use Rattle.pool_state.proofs.Book.{holds-sound}
+use Rattle.account_state.specs.Account.{account}
 use Rattle.batch.specs.InWords.{asked}
 use Rattle.batch.proofs.InWords.{asked-length}
 use Rattle.batch.proofs.Going.{Going, going-start, going-holds, going-below, going-on, going-end, going-room}
@@ -15,16 +15,16 @@ use Rattle.batch.proofs.in_place.serve_list_in.Statement.{statement}
 use Rattle.batch.proofs.in_place.serve_list_in.Tie as tie
 
 abbrev Inv-loop : tie.InvT-loop
-Inv-loop total₀ first₀ heads₀ start₀ end₀ enabled₀ previous₀ next₀ lprev₀ lnext₀ calls answers₀ count k₀ total first heads start end enabled previous next lprev lnext answers k =
+Inv-loop lowest₀ total₀ first₀ heads₀ start₀ end₀ enabled₀ previous₀ next₀ lprev₀ lnext₀ calls answers₀ count k₀ lowest total first heads start end enabled previous next lprev lnext answers k =
     (length answers ≡ length answers₀)
-    × Going pool (arrays total₀ first₀ heads₀ start₀ end₀ enabled₀ previous₀ next₀ lprev₀ lnext₀) calls answers₀ k (arrays total first heads start end enabled previous next lprev lnext) answers
+    × Going pool (account (arrays total₀ first₀ heads₀ start₀ end₀ enabled₀ previous₀ next₀ lprev₀ lnext₀) lowest₀) calls answers₀ k (account (arrays total first heads start end enabled previous next lprev lnext) lowest) answers
 
 abbrev μ-loop : tie.MeasureT-loop
-μ-loop total₀ first₀ heads₀ start₀ end₀ enabled₀ previous₀ next₀ lprev₀ lnext₀ calls answers₀ count k₀ total first heads start end enabled previous next lprev lnext answers k =
+μ-loop lowest₀ total₀ first₀ heads₀ start₀ end₀ enabled₀ previous₀ next₀ lprev₀ lnext₀ calls answers₀ count k₀ lowest total first heads start end enabled previous next lprev lnext answers k =
     count - k
 
 loop-holds : tie.Need-loop-holds Inv-loop μ-loop
-loop-holds c = (refl, going-start pool (lit≤ tt) _ _ _ (holds-sound pool (lit≤ tt) _ _ (c .before .pre .0 .1)))
+loop-holds c = (refl, going-start pool (lit≤ tt) _ _ _ (c .before .pre .0))
 
 -- in a turn, there is a call to serve,
 more : (c : tie.In-loop Inv-loop μ-loop) → c .before .loop .k < length (asked (c .before .before .before .args .calls .now))
@@ -43,15 +43,19 @@ serve-words-in-requires c κs =
     let turn = lent .before .before .before .before .before .before in
     (_, going-holds pool (lit≤ tt) _ _ _ _ _ _ (turn .before .loop .inv .1))
 
+noted-requires : tie.Need-noted-requires Inv-loop μ-loop
+noted-requires c κs = tt
+
 signed-number-requires : tie.Need-signed-number-requires Inv-loop μ-loop
 signed-number-requires c κs =
-    let lent = c .before .before .before .before .before .before in
+    let served = c .before .before .before in
+    let lent = served .before .before .before .before .before .before in
     let worded = lent .before .before .before .before .before in
-    going-below pool (lit≤ tt) _ _ _ _ _ _ (worded .before .before .loop .inv .1) _ (worded .words-at .ensures) _ _ (c .serve-words-in .ensures)
+    going-below pool (lit≤ tt) _ _ _ _ _ _ (worded .before .before .loop .inv .1) _ (worded .words-at .ensures) _ _ (served .serve-words-in .ensures)
 
 -- the turn in which a number was made
 turn-of : (c : tie.After-signed-number Inv-loop μ-loop) → tie.In-loop Inv-loop μ-loop
-turn-of c = let back = c .before .before .before .before .before .before .before in back .before .before .before .before .before .before
+turn-of c = let back = c .before .before .before .before .before .before .before .before .before .before in back .before .before .before .before .before .before
 
 mul-number : tie.Need-mul-number Inv-loop μ-loop
 unfolding turn-of
@@ -70,13 +74,14 @@ loop-less c = omega arith
 
 loop-again : tie.Need-loop-again Inv-loop μ-loop
 loop-again c =
-    let served = c .before in
+    let noted = c .before in
+    let served = noted .before .before .before in
     let back = served .before .before .before .before .before .before in
     let worded = back .before .before .before .before .before in
     let turn = worded .before in
     let inv = turn .before .loop .inv in
     let number = toZ-ofZ {w = w64} (record { sfits = c .signed-number .ok }) ∙ c .signed-number .ensures in
-    (simp length-set (inv .0), going-on pool (lit≤ tt) _ _ _ _ _ _ (inv .1) _ (worded .words-at .ensures) _ _ (served .serve-words-in .ensures) _ number (more turn) (room turn))
+    (simp length-set (inv .0), going-on pool (lit≤ tt) _ _ _ _ _ _ (inv .1) _ (worded .words-at .ensures) _ _ (served .serve-words-in .ensures) _ (noted .noted .ensures) _ number (more turn) (room turn))
 
 same-length : tie.Need-same-length Inv-loop μ-loop
 same-length c = omega arith
@@ -93,6 +98,7 @@ serve-list-in-spec =
     loop-holds
     words-at-requires
     serve-words-in-requires
+    noted-requires
     signed-number-requires
     mul-number
     slice-set-from-number

@@ -10,12 +10,12 @@ layout-of-requires c κs = tt
 
 read-fields-requires : tie.Need-read-fields-requires
 read-fields-requires c κs =
-    let told = c .before .before .before .before .before .before .before .before .before .before in
+    let told = c .before .before .before .before .before .before .before .before .before .before .before in
     (housed-told _ (told .before .before .args .image .now) (told .layout-of .ensures), fresh-state pool)
 
 returns : tie.Need-returns
 returns c =
-    let told = c .before .before .before .before .before .before .before .before .before .before .before .before in
+    let told = c .before .before .before .before .before .before .before .before .before .before .before .before .before in
     let read = by-told _ _ _ _ (told .layout-of .ensures) (c .before .read-fields .ensures) in
     any-read _ _ (read .told) (c .if1 .taken) _ (read .state (c .if1 .taken))
 
@@ -25,7 +25,7 @@ refusal-requires c κs = tt
 returns-2 : tie.Need-returns-2
 returns-2 c =
     let tested = c .before in
-    let told = tested .before .before .before .before .before .before .before .before .before .before .before .before in
+    let told = tested .before .before .before .before .before .before .before .before .before .before .before .before .before in
     let read = by-told _ _ _ _ (told .layout-of .ensures) (tested .before .read-fields .ensures) in
     c .refusal .ensures ∙ any-unread _ _ (read .told) (tested .if1 .left)
 

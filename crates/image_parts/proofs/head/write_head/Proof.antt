@@ -74,17 +74,17 @@ part-write-links-end c = omega arith
 write-links-requires : tie.Need-write-links-requires
 write-links-requires c κs = search needs
 
-sub-put-be-4 : tie.Need-sub-put-be-4
-sub-put-be-4 c = omega arith
+sub-put-word-2 : tie.Need-sub-put-word-2
+sub-put-word-2 c = omega arith
 
-part-put-be-start-4 : tie.Need-part-put-be-start-4
-part-put-be-start-4 c = omega arith
+part-put-word-start-2 : tie.Need-part-put-word-start-2
+part-put-word-start-2 c = omega arith
 
-part-put-be-end-4 : tie.Need-part-put-be-end-4
-part-put-be-end-4 c = omega arith
+part-put-word-end-2 : tie.Need-part-put-word-end-2
+part-put-word-end-2 c = omega arith
 
-put-be-requires-4 : tie.Need-put-be-requires-4
-put-be-requires-4 c κs = tt
+put-word-requires-2 : tie.Need-put-word-requires-2
+put-word-requires-2 c κs = search needs
 
 same-length : tie.Need-same-length
 same-length c = search needs
@@ -105,7 +105,7 @@ returns c =
     let s₃ = put-number xs _ _ _ totalAt word _ _ (omega arith) s₂ (c₃ .put-word .ensures) refl in
     let s₄ = put-number xs _ _ _ firstAt (current .link) _ _ (omega arith) s₃ (c₄ .put-be3 .ensures) (c₄ .before .link-number .ensures) in
     let s₅ = put-part xs _ _ _ _ (headsAt current) (current .link * sizeLists) (omega arith) s₄ (c₅ .write-links .ensures) (length-links current _ ∙ ap (λ (n : ℕ). current .link * n) count) in
-    let s₆ = put-number xs _ _ _ (lowAt current) (current .low) _ _ (omega arith) s₅ (c .before .before .put-be4 .ensures) refl in
+    let s₆ = put-number xs _ _ _ (lowAt current) (current .low) _ _ (omega arith) s₅ (c .before .before .put-word2 .ensures) refl in
     put-all xs _ _ (recordsAt current) (omega arith) s₆ ∙ simp append-assoc
 
 pub write-head-spec : {M : Type 1} → statement M
@@ -133,9 +133,9 @@ write-head-spec =
     part-write-links-start
     part-write-links-end
     write-links-requires
-    sub-put-be-4
-    part-put-be-start-4
-    part-put-be-end-4
-    put-be-requires-4
+    sub-put-word-2
+    part-put-word-start-2
+    part-put-word-end-2
+    put-word-requires-2
     same-length
     returns)

@@ -1,0 +1,6 @@
+-- The check of an image, the ladders of refusals, and the pieces of accepted takes.
+pub mod Sound
+pub mod Begins
+pub mod Ladders
+pub mod Pieces
+pub mod Doors
