@@ -14,10 +14,10 @@ pub(crate) type Image = [u8; HOLDERS_IMAGE_BYTES];
 
 /// The version byte of the image, and that of the allocator's image in it.
 const VERSION: u8 = 1;
-const MEMORY_VERSION: u8 = if RECORDS_AT == 39 { 2 } else { 3 };
+const MEMORY_VERSION: u8 = 3;
 /// Where the allocator's image begins in it.
 const MEMORY_AT: usize = library::HOLDERS_MEMORY;
-/// In the allocator's image: the links behind the total, the records, and in each the links.
+/// In the allocator's image: the links behind the total, with the lowest figure behind them; the records, and in each the links.
 const LINKS_AT: usize = 13;
 const RECORDS_AT: usize = IMAGE_BYTES - RECORDS * RECORD_BYTES;
 const RECORD_BYTES: usize = 25;
@@ -29,10 +29,10 @@ pub(crate) const EMPTY: Image = empty();
 const fn empty() -> Image {
     let mut image = with_head([0; HOLDERS_IMAGE_BYTES], 0, VERSION);
     image = with_head(image, MEMORY_AT, MEMORY_VERSION);
-    image = with_no_link(image, MEMORY_AT + LINKS_AT, MEMORY_AT + RECORDS_AT);
+    image = with_none(image, MEMORY_AT + LINKS_AT, MEMORY_AT + RECORDS_AT);
     let mut record = MEMORY_AT + RECORDS_AT;
     while record < HOLDERS_IMAGE_BYTES {
-        image = with_no_link(image, record + RECORD_LINKS_AT, record + RECORD_BYTES);
+        image = with_none(image, record + RECORD_LINKS_AT, record + RECORD_BYTES);
         record += RECORD_BYTES;
     }
     image
@@ -49,7 +49,8 @@ const fn with_head(mut image: Image, at: usize, version: u8) -> Image {
     image
 }
 
-const fn with_no_link(mut image: Image, mut at: usize, end: usize) -> Image {
+/// With no link there, and no figure.
+const fn with_none(mut image: Image, mut at: usize, end: usize) -> Image {
     while at < end {
         image[at] = u8::MAX;
         at += 1;
@@ -100,6 +101,11 @@ pub(crate) fn is_sound(image: &[u8]) -> bool {
 /// The free bytes; 0 of an image that is not sound.
 pub(crate) fn total(image: &Image) -> usize {
     calls::total(sound(image, MEMORY_AT..HOLDERS_IMAGE_BYTES))
+}
+
+/// The lowest figure; none before the first offer, nor of an image that is not sound.
+pub(crate) fn lowest(image: &Image) -> Option<usize> {
+    calls::lowest(sound(image, MEMORY_AT..HOLDERS_IMAGE_BYTES))
 }
 
 /// The free ranges; none of an image that is not sound.

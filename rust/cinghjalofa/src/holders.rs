@@ -131,6 +131,12 @@ impl HolderAllocator {
         holder_calls::total(&self.image)
     }
 
+    /// See [`MemoryAllocator::lowest`](crate::MemoryAllocator::lowest): the least number of free bytes after any accepted call since the first
+    /// accepted offer. What is refused, `NotYours` and `RegisterFull` too, leaves it.
+    pub fn lowest(&self) -> Option<usize> {
+        holder_calls::lowest(&self.image)
+    }
+
     /// The free ranges by address, as they are now.
     pub fn ranges(&self) -> FreeRanges {
         holder_calls::ranges(&self.image)
@@ -223,6 +229,11 @@ impl<'a> LentHolderAllocator<'a> {
     /// See [`HolderAllocator::total`].
     pub fn total(&self) -> usize {
         holder_calls::total(self.image)
+    }
+
+    /// See [`HolderAllocator::lowest`].
+    pub fn lowest(&self) -> Option<usize> {
+        holder_calls::lowest(self.image)
     }
 
     /// See [`HolderAllocator::ranges`].

@@ -167,6 +167,18 @@ fn an_allocator_is_printed_with_who_holds_what() {
     assert_eq!(format!("{:?}", LentHolderAllocator::from_image(&mut image).unwrap()), format!("Lent{shown}"));
 }
 
+/// What the register refuses leaves the lowest figure, as all refusals do.
+#[test]
+fn refusals_leave_the_lowest_figure() {
+    assert_eq!(HolderAllocator::new().lowest(), None);
+    let mut both = with_full_register();
+    assert_eq!(both.own.lowest(), Some(1));
+    assert_eq!((both.ask('a', &[2, 1, 0]), both.ask('f', &[2, 0, 1])), (-6, -5));
+    assert_eq!((both.own.lowest(), both.ask('f', &[1, 0, 1])), (Some(1), 0));
+    assert_eq!((both.own.lowest(), both.own.total()), (Some(1), 2));
+    assert_eq!((both.ask('a', &[2, 1, 0]), both.ask('f', &[2, 0, 1]), both.own.lowest()), (0, 0, Some(1)));
+}
+
 #[test]
 fn the_last_address_can_be_held() {
     let top = 1 << 63;

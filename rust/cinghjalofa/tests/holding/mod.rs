@@ -56,7 +56,7 @@ impl Both {
         let answer = answer!(self.own, call);
         let mut lent = LentHolderAllocator::from_image(&mut self.lent).unwrap();
         assert_eq!(answer!(lent, call), answer, "{call:?}, of a lent image");
-        assert_eq!(lent.total(), self.own.total());
+        assert_eq!((lent.total(), lent.lowest()), (self.own.total(), self.own.lowest()));
         assert!(lent.ranges().eq(self.own.ranges()) && lent.held().eq(self.own.held()));
         assert!(lent.image() == self.own.image(), "{call:?} leaves another image where it is lent");
         assert!(answer >= 0 || *self.own.image() == before, "{call:?} was refused with {answer} and changed a byte");
