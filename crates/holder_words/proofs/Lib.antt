@@ -1,0 +1,2 @@
+-- Laws of a register in words.
+mod Storing
