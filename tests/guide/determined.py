@@ -12,7 +12,7 @@ FUNCTION = r"\n *(?:pub )?(?:extern \"C\" )?fn {}\((.*?)\)([^(){{}}]*?)\n *((?:r
 EQUATION = re.compile(r"ensures \{ λ (\S+)\. ⌜ (?:(\S+)|now \((\w+) \.exit\)|is (\w+)) ≡ ")
 WHOLE = re.compile(r"ensures \{ λ _\. ⌜ turnsEleven \(λ a a′\. a′ ≡ ")  # of the eleven fields
 HEAD = re.compile(r"(?:⌜|λ [as] [as]′\.) (\w\w+) ")
-LENT = {"Judges": "Judged", "ServedIn": "Served", "AnswersIn": "Answers"}  # the same of lent fields
+LENT = {"Judges": "Judged", "ServedIn": "Served", "AnswersIn": "Answers", "HolderSaysIn": "HolderSays", "RepliesIn": "Replies"}  # the same of lent fields
 
 
 def sentences(project):

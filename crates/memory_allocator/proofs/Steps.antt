@@ -6,8 +6,10 @@ use Rattle.linked_lists.specs.Links.{none}
 use Rattle.rules.specs.Rules.{Book, Answer, Call, step, voucher}
 use Rattle.rules.specs.Sound.{Sound}
 use Rattle.rules_laws.proofs.Outcomes.{outcome}
+use Rattle.rules_laws.proofs.Steps.{step-sound}
 use Rattle.pool_state.specs.State.{stateOf}
-use Rattle.pool_state.specs.Sound.{SoundState}
+use Rattle.pool_state.specs.Sound.{bookOf, SoundState}
+use Rattle.pool_state.specs.declared.MemoryAllocator.{MemoryAllocator}
 use Rattle.pool_state.proofs.States.{state-holds}
 use Rattle.pool_state.proofs.Book.{book-back, holds-sound}
 use Rattle.check_state.specs.IsSound.{isSound}
@@ -33,3 +35,8 @@ module _ (n : ℕ) (small : n ≤ none) where
 
   pub made-voucher : (b : Book) (c : Call) → Sound n b → voucherOf c (made n (stateOf n b) c .answer) ≡ voucher c (step n c b)
   made-voucher b c s = ap (λ (r : Outcome). voucherOf c (r .answer)) (made-held b c s) ∙ numbered n b c (step n c b) (outcome n b c s)
+
+  -- every call leaves a sound state sound
+  pub made-sound : (s : MemoryAllocator) → SoundState n s → (c : Call) → SoundState n (made n s c .state)
+  unfolding judged
+  made-sound s h c = rw (sound-passes n small s h) (sound-held _ (step-sound n (bookOf n s) c (h .book)))

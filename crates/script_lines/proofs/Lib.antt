@@ -1,4 +1,4 @@
 -- Laws that several proofs cite.
 mod Splits
 mod Numbers
-mod Reading
+pub mod Reading

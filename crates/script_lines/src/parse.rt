@@ -22,12 +22,13 @@ enum Number {
 }
 
 // A number, and the place after its field.
-enum Field {
+pub enum Field {
     Is(u64, usize),
     Not,
 }
 
-const LONGEST: usize = 80;
+// No line of any forms is longer.
+pub const LONGEST: usize = 80;
 
 // The largest number that can be followed by a digit: a tenth of 2^64 - 1.
 const TENTH: u64 = 1844674407370955161;
@@ -91,7 +92,7 @@ fn field_end(line: &[u8], at: usize) -> usize
     }
 }
 
-fn field_at(line: &[u8], at: usize) -> Field
+pub fn field_at(line: &[u8], at: usize) -> Field
     ensures { λ r. ⌜ r ≡ fieldAt (now (line .entry)) at ⌝ }
 {
     let end = field_end(line, at);

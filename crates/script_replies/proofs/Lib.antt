@@ -1,3 +1,3 @@
 -- Laws of what is printed: Texts on a call's answer, Tables on the ranges of two arrays.
 mod Texts
-mod Tables
+pub mod Tables

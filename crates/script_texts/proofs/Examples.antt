@@ -4,7 +4,8 @@ use mathlib.Core.Path.{_≡_, refl}
 use mathlib.Core.List.{List, [], _∷_, map}
 use Prim.Native.Nat.{ℕ}
 use Rattle.script_lines.specs.Fields.{fields, digits, leads, value, numberOf, numbersOf}
-use Rattle.script_lines.specs.Script.{said, spoken, lineOf}
+use Rattle.script_lines.specs.Forms.{spokenIn, lineIn}
+use Rattle.script_lines.specs.Script.{said, lineOf}
 use Rattle.script_texts.specs.Answers.{digitsIn, digitsOf, ending, okAt, noText, rangeText, listText}
 use Rattle.script_lines.specs.declared.parse.Line.the-variants as Say
 use Rattle.script_texts.proofs.Round.{free, allocate, reserve}
@@ -31,7 +32,7 @@ bad =
     (102 ∷ 32 ∷ 49 ∷ 32 ∷ 120 ∷ []) ∷ []
 
 pub all-bad : map lineOf bad ≡ map (λ (l : List ℕ). Say.Bad) bad
-unfolding fields digits leads value numberOf numbersOf said spoken lineOf
+unfolding fields digits leads value numberOf numbersOf said spokenIn lineIn
 all-bad = refl
 
 -- `f 65536 65536`; `a 0 0`; `a 1 64`; `r 70000 100 12`; `f 18446744073709551615 1`; `l`
@@ -45,7 +46,7 @@ good =
     (108 ∷ []) ∷ []
 
 pub all-good : map lineOf good ≡ free 65536 65536 ∷ allocate 0 0 ∷ allocate 1 64 ∷ reserve 70000 100 12 ∷ free 18446744073709551615 1 ∷ Say.List ∷ []
-unfolding fields digits leads value numberOf numbersOf said spoken lineOf
+unfolding fields digits leads value numberOf numbersOf said spokenIn lineIn
 all-good = refl
 
 -- `ok 65536`; `no 4`; `list 2 61440`; `65536 69631`; `ok 0`, each with its newline

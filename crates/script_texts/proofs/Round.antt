@@ -10,6 +10,7 @@ use borrow.Author.Tests.{leb-true, le-leb, ne-eqb}
 use lib.Dec.{leb}
 use lib.ListN.{length, length-append}
 use Rattle.script_lines.specs.Fields.{fields, digit, digits, numbersOf}
+use Rattle.script_lines.specs.Forms.{spokenIn, lineIn}
 use Rattle.script_lines.specs.Script.{said, spoken, lineOf}
 use Rattle.script_texts.specs.Answers.{digitsOf}
 use Rattle.calls.specs.declared.Request.the-variants.{Free, Allocate, Reserve}
@@ -65,11 +66,11 @@ module _ (x y : ℕ) (hx : x < 2 ^ 64) (hy : y < 2 ^ 64) where
   two-numbers = rw (then (digitsOf x) (digitsOf y) (all-digits x), alone (digitsOf y) (all-digits y), reads-back x hx, reads-back y hy)
 
   pub free-line : lineOf (two 102 x y) ≡ free x y
-  unfolding lineOf fields spoken said
+  unfolding lineIn fields spokenIn said
   free-line = rw (le-leb (length (two 102 x y)) 80 (two-short 102)) (ap (spoken 102) two-numbers)
 
   pub allocate-line : lineOf (two 97 x y) ≡ allocate x y
-  unfolding lineOf fields spoken said
+  unfolding lineIn fields spokenIn said
   allocate-line = rw (le-leb (length (two 97 x y)) 80 (two-short 97)) (ap (spoken 97) two-numbers)
 
   module _ (z : ℕ) (hz : z < 2 ^ 64) where
@@ -82,5 +83,5 @@ module _ (x y : ℕ) (hx : x < 2 ^ 64) (hy : y < 2 ^ 64) where
         rw (then (digitsOf x) (digitsOf y ++ (32 ∷ digitsOf z)) (all-digits x), then (digitsOf y) (digitsOf z) (all-digits y), alone (digitsOf z) (all-digits z), reads-back x hx, reads-back y hy, reads-back z hz)
 
     pub reserve-line : lineOf (three 114 x y z) ≡ reserve x y z
-    unfolding lineOf fields spoken said
+    unfolding lineIn fields spokenIn said
     reserve-line = rw (le-leb (length (three 114 x y z)) 80 three-short) (ap (spoken 114) three-numbers)

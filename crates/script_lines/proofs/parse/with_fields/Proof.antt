@@ -1,7 +1,9 @@
 -- `parse::with_fields` meets its contract: a law for each return, by what the fields on the way answered.
 -- Assumes nothing.
-use mathlib.Core.Path.{sym, _∙_}
-use Rattle.script_lines.proofs.Reading.{none-read, one-number, one-read, two-numbers, two-read, three-numbers, more-numbers}
+use mathlib.Core.Path.{refl, sym, _∙_}
+use Rattle.script_lines.specs.Script.{said}
+use Rattle.script_lines.specs.declared.parse.Line.the-variants.{Bad}
+use Rattle.script_lines.proofs.Reading.{none-read, one-number, one-read, two-numbers, two-read, three-numbers, past-three}
 use borrow.Author.Needs.{needs}
 use Rattle.script_lines.proofs.parse.with_fields.Statement.{statement}
 use Rattle.script_lines.proofs.parse.with_fields.Tie as tie
@@ -18,13 +20,14 @@ enum-told c = search needs
 returns : tie.Need-returns
 returns c =
     let s = c .before .before .before .before in
-    sym (none-read (s .args .letter) (s .args .line .now) (s .args .at) (sym (c .before .before .field-at .ensures) ∙ c .enum-told .given .1))
+    sym (none-read said Bad (s .args .letter) (s .args .line .now) (s .args .at) (sym (c .before .before .field-at .ensures) ∙ c .enum-told .given .1))
 
 returns-2 : tie.Need-returns-2
+unfolding said
 returns-2 c =
     let a = c .before .before in
     let s = a .before .before .before .before in
-    sym (one-number (s .args .letter) (s .args .line .now) (s .args .at) _ _ (sym (a .before .before .field-at .ensures) ∙ a .x .given .1) (c .if1 .taken))
+    sym (one-number said Bad (s .args .letter) (s .args .line .now) (s .args .at) _ _ (sym (a .before .before .field-at .ensures) ∙ a .x .given .1) (c .if1 .taken))
 
 add-field-at : tie.Need-add-field-at
 add-field-at c = search needs
@@ -42,7 +45,7 @@ returns-3 : tie.Need-returns-3
 returns-3 c =
     let a = c .before .before .before .before .before in
     let s = a .before .before .before .before in
-    sym (one-read (s .args .letter) (s .args .line .now) (s .args .at) _ _ (sym (a .before .before .field-at .ensures) ∙ a .x .given .1) (c .before .before .before .if1 .left)
+    sym (one-read said Bad (s .args .letter) (s .args .line .now) (s .args .at) _ _ (sym (a .before .before .field-at .ensures) ∙ a .x .given .1) (c .before .before .before .if1 .left)
     (sym (c .before .before .field-at2 .ensures) ∙ c .enum-told2 .given .1))
 
 with-two-requires : tie.Need-with-two-requires
@@ -54,7 +57,7 @@ returns-4 c =
     let a = b .before .before .before .before .before in
     let s = a .before .before .before .before in
     c .with-two .ensures ∙ sym
-    (two-numbers (s .args .letter) (s .args .line .now) (s .args .at) _ _ (sym (a .before .before .field-at .ensures) ∙ a .x .given .1) (b .before .before .before .if1 .left)
+    (two-numbers said Bad (s .args .letter) (s .args .line .now) (s .args .at) _ _ (sym (a .before .before .field-at .ensures) ∙ a .x .given .1) (b .before .before .before .if1 .left)
     _ _ (sym (b .before .before .field-at2 .ensures) ∙ b .y .given .1) (c .before .if2 .taken))
 
 add-field-at-2 : tie.Need-add-field-at-2
@@ -74,7 +77,7 @@ returns-5 c =
     let b = c .before .before .before .before .before in
     let a = b .before .before .before .before .before in
     let s = a .before .before .before .before in
-    sym (two-read (s .args .letter) (s .args .line .now) (s .args .at) _ _ (sym (a .before .before .field-at .ensures) ∙ a .x .given .1) (b .before .before .before .if1 .left)
+    sym (two-read said Bad (s .args .letter) (s .args .line .now) (s .args .at) _ _ (sym (a .before .before .field-at .ensures) ∙ a .x .given .1) (b .before .before .before .if1 .left)
     _ _ (sym (b .before .before .field-at2 .ensures) ∙ b .y .given .1) (c .before .before .before .if2 .left) (sym (c .before .before .field-at3 .ensures) ∙ c .enum-told3 .given .1))
 
 with-three-requires : tie.Need-with-three-requires
@@ -87,18 +90,19 @@ returns-6 c =
     let a = b .before .before .before .before .before in
     let s = a .before .before .before .before in
     c .with-three .ensures ∙ sym
-    (three-numbers (s .args .letter) (s .args .line .now) (s .args .at) _ _ (sym (a .before .before .field-at .ensures) ∙ a .x .given .1) (b .before .before .before .if1 .left)
+    (three-numbers said Bad (s .args .letter) (s .args .line .now) (s .args .at) _ _ (sym (a .before .before .field-at .ensures) ∙ a .x .given .1) (b .before .before .before .if1 .left)
     _ _ (sym (b .before .before .field-at2 .ensures) ∙ b .y .given .1) (d .before .before .before .if2 .left) _ _ (sym (d .before .before .field-at3 .ensures) ∙ d .z .given .1)
     (c .before .if3 .taken))
 
 returns-7 : tie.Need-returns-7
+unfolding said
 returns-7 c =
     let d = c .before .before in
     let b = d .before .before .before .before .before in
     let a = b .before .before .before .before .before in
     let s = a .before .before .before .before in
-    sym (more-numbers (s .args .letter) (s .args .line .now) (s .args .at) _ _ (sym (a .before .before .field-at .ensures) ∙ a .x .given .1) (b .before .before .before .if1 .left)
-    _ _ (sym (b .before .before .field-at2 .ensures) ∙ b .y .given .1) (d .before .before .before .if2 .left) _ _ (sym (d .before .before .field-at3 .ensures) ∙ d .z .given .1) (c .if3 .left))
+    sym (past-three said Bad (s .args .letter) (s .args .line .now) (s .args .at) _ _ (sym (a .before .before .field-at .ensures) ∙ a .x .given .1) (b .before .before .before .if1 .left)
+    _ _ (sym (b .before .before .field-at2 .ensures) ∙ b .y .given .1) (d .before .before .before .if2 .left) _ _ (sym (d .before .before .field-at3 .ensures) ∙ d .z .given .1) (c .if3 .left) (λ w ws. refl))
 
 pub with-fields-spec : {M : Type 1} → statement M
 with-fields-spec =

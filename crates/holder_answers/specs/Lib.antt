@@ -1,0 +1,2 @@
+-- What a line prints and leaves after a first line `holders`.
+pub mod Answers

@@ -1,0 +1,3 @@
+-- Laws of the texts: Says on an answer, Tables on a list.
+mod Says
+mod Tables

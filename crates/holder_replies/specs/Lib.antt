@@ -1,0 +1,2 @@
+-- What the contracts cite of the replies.
+pub mod Replies

@@ -1,0 +1,2 @@
+-- What the contracts cite of the words.
+pub mod Words
