@@ -5,14 +5,14 @@ use mathlib.Core.Bool.{not, cond}
 use mathlib.Core.List.{List}
 use Prim.Native.Nat.{ℕ, zero, suc, _+_, _-_, _*_, _/_, _%_, _^_, _≤_, _<_}
 use native.Mathlib.Omega.{arith}
-use native.Mathlib.Nat.{mod-eq-of-lt}
+use native.Mathlib.Nat.{mod-eq-of-lt, le-refl}
 use lib.Dec.{T, leb, eqb, lit≤}
 use lib.ListN.{length, length-set}
 use Rattle.rules_laws.proofs.Lists.{if, T-or-not, T-true, T-false}
 use Rattle.calls.specs.Calls.{addressFrom}
 use Rattle.mapper_rules.specs.Walk.{span, isTable}
 use Rattle.mapper_laws.specs.declared.Mapping.{Mapping}
-use Rattle.mapper_laws.specs.Tree.{Entry, Ends, Leads, table, pageOf, leadsTo, sum}
+use Rattle.mapper_laws.specs.Tree.{Entry, Ends, Leads, table, pageOf, leadsTo}
 use Rattle.mapper_laws.specs.Mapping.{meets, opens, leafWord, tableWord, wants}
 use Rattle.mapper_laws.specs.Arena.{shows, stored, cleared}
 use Rattle.mapper_laws.specs.Stores.{Stored, put, hand, steps, store}
@@ -126,7 +126,7 @@ module _ (b L : ℕ) (l : List ℕ) where
         abbrev wanted : ℕ → ℕ
         wanted j = wants q h (e + j * span h) (f j)
 
-        pub in-turn : Lock h → Table h e first m Own t f → ((j : ℕ) → j < m → Inside (first + j)) → ((j : ℕ) → j < m → (p : ℕ) → Has pageOf h (f j) p → Whole p) → Shows s t
+        in-turn : Lock h → Table h e first m Own t f → ((j : ℕ) → j < m → Inside (first + j)) → ((j : ℕ) → j < m → (p : ℕ) → Has pageOf h (f j) p → Whole p) → Shows s t
             → (k : ℕ) → k ≤ m → Shows (lent.steps k (λ j. lent.store q b h (e + j * span h) (first + j)) s) (steps k (λ j. store q page pageOf h (e + j * span h) (first + j)) t)
         unfolding lent.steps steps
         in-turn lock b inside tables r zero few = r
@@ -187,7 +187,7 @@ module _ (b L : ℕ) (l : List ℕ) where
 
       -- ---- every entry
 
-      pub locked : (h : ℕ) → Lock h
+      locked : (h : ℕ) → Lock h
       unfolding lent.store store
       locked zero e i s t E r is rd room inside tables = elim (T-or-not (meets q 0 e)) [
         | inl m ↦ rw (T-true (meets q 0 e) m) (leaf-shows 0 e i s t m inside r)
@@ -210,3 +210,8 @@ module _ (b L : ℕ) (l : List ℕ) where
           | inr m ↦ rw (lent-none q b h e i s o m, refined.store-none q page pageOf h e i t o m) r
         ]
       ]
+
+      pub stores-show : (h e first m : ℕ) (Own : ℕ → Type 0) (s : Held) (t : Stored) (f : ℕ → Entry) → Table h e first m Own t f → ((j : ℕ) → j < m → Inside (first + j))
+          → ((j : ℕ) → j < m → (p : ℕ) → Has pageOf h (f j) p → Whole p) → Shows s t
+          → Shows (lent.storeIn q b h e first m s) (steps m (λ j. store q page pageOf h (e + j * span h) (first + j)) t)
+      stores-show h e first m Own s t f b inside tables r = in-turn h e first m Own s t f (locked h) b inside tables r m (le-refl m)

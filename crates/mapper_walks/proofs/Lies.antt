@@ -1,8 +1,8 @@
 -- Tables that lie right, and pages that are handed out, are whole pages of the arena; and leaves are words. Assumes nothing.
-use mathlib.Core.Path.{_≡_, refl, sym, _∙_, ap, subst}
-use mathlib.Core.Bool.{Bool, true, false, cond, _&&_}
+use mathlib.Core.Path.{_≡_, refl}
+use mathlib.Core.Bool.{Bool, true, false, cond}
 use mathlib.Core.List.{List}
-use Prim.Native.Nat.{ℕ, suc, _+_, _-_, _*_, _/_, _%_, _^_, _≤_, _<_}
+use Prim.Native.Nat.{ℕ, _+_, _*_, _/_, _%_, _^_, _≤_, _<_}
 use native.Mathlib.Omega.{arith}
 use lib.Dec.{T, leb, ltb, eqb, leb→le, ltb→lt}
 use lib.ListN.{length}
@@ -12,8 +12,7 @@ use Rattle.mapper_rules.specs.Walk.{span}
 use Rattle.mapper_rules.specs.Numbers.{outputTop}
 use Rattle.mapper_laws.specs.declared.Mapping.{Mapping}
 use Rattle.mapper_laws.specs.Tree.{In, pageOf}
-use Rattle.mapper_laws.specs.Marks.{fine}
-use Rattle.mapper_laws.specs.Mapping.{Sane, outputOf, meets, lowBits, leafWord, tableWord}
+use Rattle.mapper_laws.specs.Mapping.{Sane, meets, leafWord, tableWord}
 use Rattle.mapper_laws.proofs.Maps.{page-of}
 use Rattle.mapper_tables.specs.declared.Top.{Top}
 use Rattle.mapper_tables.specs.Apart.{insideAll, apart}

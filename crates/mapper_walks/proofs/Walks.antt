@@ -1,19 +1,17 @@
 -- The promise: in the arena that an accepted map leaves, mapped addresses translate as asked and all others as before. Assumes nothing.
 use mathlib.Core.Path.{_≡_, refl, sym, _∙_, ap, subst, fun-ext}
-use mathlib.Core.Logic.{inl, inr}
 use mathlib.Core.Bool.{Bool, true, false, not, cond, _||_}
-use mathlib.Core.List.{List, _++_}
-use Prim.Native.Nat.{ℕ, _+_, _*_, _/_, _%_, _^_, _≤_, _<_}
+use mathlib.Core.List.{List}
+use Prim.Native.Nat.{ℕ, _+_, _*_, _/_, _%_, _^_, _<_}
 use native.Mathlib.Omega.{arith}
-use native.Mathlib.Nat.{zero-add, le-refl}
+use native.Mathlib.Nat.{zero-add}
 use lib.Dec.{T, eqb, eqb→eq}
-use lib.IntN.{pos}
 use lib.ListN.{length}
 use Rattle.mapper_rules.specs.Walk.{span, walk, topHeight, topTable}
 use Rattle.mapper_rules.specs.Numbers.{unaligned, topEntries, badRegisters, badRange, badNumbers}
 use Rattle.mapper_laws.specs.declared.Mapping.{Mapping}
 use Rattle.mapper_laws.specs.Tree.{Entry, memory, pageOf, joined, sum, some, tables, In, Once}
-use Rattle.mapper_laws.specs.Mapping.{mappingOf, inRange, asked, wants, blocked}
+use Rattle.mapper_laws.specs.Mapping.{mappingOf, inRange, asked, wants, blocked, mapped}
 use Rattle.mapper_laws.specs.Arena.{shows}
 use Rattle.mapper_laws.specs.Stores.{Stored, steps, store}
 use Rattle.mapper_laws.specs.Promise as words
@@ -27,13 +25,12 @@ use Rattle.mapper_laws.proofs.Maps as laws
 use Rattle.mapper_pages.specs.Pages.{supply, taken, wantsIn}
 use Rattle.mapper_stores.specs.Stores as lent
 use Rattle.mapper_tables.specs.declared.Top.{Top}
-use Rattle.mapper_tables.specs.Reached.{reachedIn}
 use Rattle.mapper_lies.specs.Lies.{topOf, lies}
 use Rattle.mapper_supply.specs.Supply.{imageAfter, pageAt, Handed}
 use Rattle.mapper_supply.proofs.Handed.{handed}
-use Rattle.mapper.specs.Maps.{Left, left, inTheWay, stored, mapOver}
+use Rattle.mapper.specs.Maps.{Left, inTheWay, stored, mapOver}
 use Rattle.mapper_walks.specs.Promise.{Mapped, Promised}
-use Rattle.mapper_walks.proofs.Lent.{Inside, Whole, Shows, in-turn, locked}
+use Rattle.mapper_walks.proofs.Lent.{Inside, Whole, Shows, stores-show}
 use Rattle.mapper_walks.proofs.Lies.{handed-small, handed-whole, table-whole, leaf-small}
 use Rattle.mapper_walks.proofs.Accepted.{Accepted, accepted}
 
@@ -132,12 +129,11 @@ module _ (base vttbr vtcr output input size : ℕ) (readable writable : Bool) (l
 
   side-by-side : Shows b (length A) l done stores
   unfolding stored imageAfter
-  side-by-side = in-turn b (length A) l q N (laws.words q word vttbr vtcr page fit) (laws.pages q word vttbr vtcr page fit .once) (leaf-ends q) (leaf-small q (is-asked .sane)) small
+  side-by-side =
+      stores-show b (length A) l q N (laws.words q word vttbr vtcr page fit) (laws.pages q word vttbr vtcr page fit .once) (leaf-ends q) (leaf-small q (is-asked .sane)) small
       (λ k h. handed-whole base (length A) l (page k) aligned (pages .whole k h) (pages .low k h) (pages .high k h))
-      H 0 first m (λ x. In x (topPages vttbr vtcr)) (lent.held A l) start f
-      (locked b (length A) l q N (laws.words q word vttbr vtcr page fit) (laws.pages q word vttbr vtcr page fit .once) (leaf-ends q) (leaf-small q (is-asked .sane)) small
-      (λ k h. handed-whole base (length A) l (page k) aligned (pages .whole k h) (pages .low k h) (pages .high k h)) H)
-      (laws.the-table q word vttbr vtcr page fit) top-inside below-whole (record { words = λ w. refl; many = refl; image = refl }) m (le-refl m)
+      H 0 first m (λ x. In x (topPages vttbr vtcr)) (lent.held A l) start f (laws.the-table q word vttbr vtcr page fit) top-inside below-whole
+      (record { words = λ w. refl; many = refl; image = refl })
 
   abbrev after : Stored
   after = words.after q word vttbr vtcr page
@@ -151,12 +147,13 @@ module _ (base vttbr vtcr output input size : ℕ) (readable writable : Bool) (l
   abbrev whole : Left
   whole = mapOver base vttbr vtcr output input size readable writable l A
 
-  mapped : Mapped base vttbr vtcr output input size readable writable l A
-  mapped =
+  all-mapped : Mapped base vttbr vtcr output input size readable writable l A
+  all-mapped =
       let at : whole .words ≡ done .arena = ap (λ (r : Left). r .words) (ok .left-is) in
       let shown : after .word ≡ shows b (whole .words) = same-words ∙ ap (shows b) (sym at) in
       record {
         translated = λ x. subst (λ (v : ℕ → ℕ). walk (memory v) vttbr vtcr x ≡ cond (inRange q x) (asked q x) (walk (memory word) vttbr vtcr x)) shown (maps .translated x);
+        tree = λ j h. subst (λ (v : ℕ → ℕ). entryAt v vttbr vtcr j ≡ mapped q page H (j * span H) (words.before q word vttbr vtcr j) (f j)) shown (maps .tree j h);
         same-length = ap length at ∙ side-by-side .many;
         frame = subst (λ (v : ℕ → ℕ). (w : ℕ) → Outside v vttbr vtcr w → v w ≡ word w) shown (maps .frame);
         once = subst (λ (v : ℕ → ℕ). Once (reached v vttbr vtcr)) shown (maps .once);
@@ -166,4 +163,4 @@ module _ (base vttbr vtcr output input size : ℕ) (readable writable : Bool) (l
 
 pub promised : (base vttbr vtcr output input size : ℕ) (readable writable : Bool) (l A : List ℕ) → Promised base vttbr vtcr output input size readable writable l A
 promised base vttbr vtcr output input size readable writable l A e =
-    mapped base vttbr vtcr output input size readable writable l A (accepted base vttbr vtcr output input size readable writable l A e)
+    all-mapped base vttbr vtcr output input size readable writable l A (accepted base vttbr vtcr output input size readable writable l A e)

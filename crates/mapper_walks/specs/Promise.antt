@@ -3,16 +3,17 @@
 use mathlib.Core.Bool.{Bool, cond}
 use mathlib.Core.List.{List}
 use mathlib.Core.Path.{_≡_}
-use Prim.Native.Nat.{ℕ, _/_}
+use Prim.Native.Nat.{ℕ, _*_, _/_, _<_}
 use lib.IntN.{pos}
 use lib.ListN.{length}
-use Rattle.mapper_rules.specs.Walk.{Translation, walk}
+use Rattle.mapper_rules.specs.Walk.{span, Translation, walk, topHeight}
+use Rattle.mapper_rules.specs.Numbers.{topEntries}
 use Rattle.mapper_laws.specs.declared.Mapping.{Mapping}
 use Rattle.mapper_laws.specs.Tree.{memory, Once}
-use Rattle.mapper_laws.specs.Mapping.{mappingOf, inRange, asked}
+use Rattle.mapper_laws.specs.Mapping.{mappingOf, inRange, asked, mapped}
 use Rattle.mapper_laws.specs.Arena.{shows}
-use Rattle.mapper_laws.specs.Promise.{reached, Outside, wanted}
-use Rattle.mapper_supply.specs.Supply.{imageAfter}
+use Rattle.mapper_laws.specs.Promise.{entryAt, reached, Outside, before, wanted}
+use Rattle.mapper_supply.specs.Supply.{imageAfter, pageAt}
 use Rattle.mapper.specs.Maps.{Left, mapOver}
 
 module _ (base vttbr vtcr output input size : ℕ) (readable writable : Bool) (l A : List ℕ) where
@@ -32,7 +33,10 @@ module _ (base vttbr vtcr output input size : ℕ) (readable writable : Bool) (l
   pub record Mapped : Type 0 where
     -- as asked in the range, as before elsewhere, for every input
     pub translated : (x : ℕ) → translation (after .words) x ≡ cond (inRange q x) (asked q x) (translation A x)
-    -- no word changes but those of tables that are then reached
+    -- each entry of the top table leads to what the mapping makes of it, with the door's pages in their order
+    pub tree : (j : ℕ) → j < topEntries vtcr
+        → entryAt (words (after .words)) vttbr vtcr j ≡ mapped q (pageAt l) (topHeight vtcr) (j * span (topHeight vtcr)) (before q (words A) vttbr vtcr j) (entryAt (words A) vttbr vtcr j)
+    -- the arena is as long as it was, and no word changes but those of tables that are then reached
     pub same-length : length (after .words) ≡ length A
     pub frame : (w : ℕ) → Outside (words (after .words)) vttbr vtcr w → words (after .words) w ≡ words A w
     -- no table is then reached twice
