@@ -63,7 +63,7 @@ took InvalidRequest e = true≢false (sym e)
 
 module _ (b : Book) (l : List ℕ) (r : Reads b l) where
   -- what the door returns
-  door : pageFrom l ≡ finished current (held pool (step pool one b)) l
+  pub door : pageFrom l ≡ finished current (held pool (step pool one b)) l
   unfolding callOver over
   door = sym (page-call l) ∙ rw (r .reads) (ap (λ (x : Outcome). finished current x l) (made-held pool small b one (r .sound)))
 
