@@ -61,34 +61,27 @@ placed : (c : List Range) (r : Range) → rules.In r c → Placed c r
 placed (q ∷ c) r (inl e) = record { at = 0; few = omega arith; start = ap startOf (sym e); last = ap lastOf (sym e) }
 placed (q ∷ c) r (inr i) = let p = placed c r i in record { at = suc (p .at); few = let h = p .few in omega arith; start = p .start; last = p .last }
 
--- ---- a page of free bytes, where they lie right
+-- ---- free bytes, where they lie right
 
-module _ (base high : ℕ) (b : Book) (x : ℕ) (free : (i : ℕ) → i < 4096 → T (freeAt b (x + i))) where
+module _ (b : Book) where
   abbrev S : List ℕ
   S = map startOf (b .chain)
 
   abbrev L : List ℕ
   L = map lastOf (b .chain)
 
-  module _ (lie : T (freeLies base high (b .chain))) where
-    inside : (r : Range) → rules.In r (b .chain) → (base ≤ r .start) × (r .last < high)
-    unfolding freeLies
-    inside r m =
-        let p = placed (b .chain) r m in
-        let t = every-one (length (b .chain)) (insideOf base high S L) lie (p .at) (p .few) in (
-          subst (λ (y : ℕ). base ≤ y) (p .start) (leb→le base (getD S (p .at) 0) (and-l (leb base (getD S (p .at) 0)) (ltb (getD L (p .at) 0) high) t)),
-          subst (λ (y : ℕ). y < high) (p .last) (ltb→lt (getD L (p .at) 0) high (and-r (leb base (getD S (p .at) 0)) (ltb (getD L (p .at) 0) high) t)),
-        )
+  pub range-inside : (base high : ℕ) → T (freeLies base high (b .chain)) → (r : Range) → rules.In r (b .chain) → (base ≤ r .start) × (r .last < high)
+  unfolding freeLies
+  range-inside base high lie r m =
+      let p = placed (b .chain) r m in
+      let t = every-one (length (b .chain)) (insideOf base high S L) lie (p .at) (p .few) in (
+        subst (λ (y : ℕ). base ≤ y) (p .start) (leb→le base (getD S (p .at) 0) (and-l (leb base (getD S (p .at) 0)) (ltb (getD L (p .at) 0) high) t)),
+        subst (λ (y : ℕ). y < high) (p .last) (ltb→lt (getD L (p .at) 0) high (and-r (leb base (getD S (p .at) 0)) (ltb (getD L (p .at) 0) high) t)),
+      )
 
-    free-low : base ≤ x
-    free-low = let w = free→ b (x + 0) (free 0 (omega arith)) in let g = inside (w .0) (w .1) .0 in let h = w .2 in omega arith
-
-    free-high : x + 4096 ≤ high
-    free-high = let w = free→ b (x + 4095) (free 4095 (omega arith)) in let g = inside (w .0) (w .1) .1 in let h = w .3 in omega arith
-
-  free-touched : T (touches S L (length (b .chain)) (x / 4096))
-  free-touched =
-      let w = free→ b (x + 0) (free 0 (omega arith)) in
+  pub byte-touched : (x : ℕ) → T (freeAt b x) → T (touches S L (length (b .chain)) (x / 4096))
+  byte-touched x free =
+      let w = free→ b x free in
       let p = placed (b .chain) (w .0) (w .1) in
       let s = p .start in
       let l = p .last in
@@ -97,6 +90,17 @@ module _ (base high : ℕ) (b : Book) (x : ℕ) (free : (i : ℕ) → i < 4096 �
       some-one (length (b .chain)) (touchesAt S L (x / 4096)) (p .at) (p .few)
       (and-i (leb (getD S (p .at) 0 / 4096) (x / 4096)) (leb (x / 4096) (getD L (p .at) 0 / 4096))
       (le→leb (getD S (p .at) 0 / 4096) (x / 4096) (omega arith)) (le→leb (x / 4096) (getD L (p .at) 0 / 4096) (omega arith)))
+
+  -- a page of them
+  module _ (x : ℕ) (free : (i : ℕ) → i < 4096 → T (freeAt b (x + i))) where
+    free-low : (base high : ℕ) → T (freeLies base high (b .chain)) → base ≤ x
+    free-low base high lie = let w = free→ b (x + 0) (free 0 (omega arith)) in let g = range-inside base high lie (w .0) (w .1) .0 in let h = w .2 in omega arith
+
+    free-high : (base high : ℕ) → T (freeLies base high (b .chain)) → x + 4096 ≤ high
+    free-high base high lie = let w = free→ b (x + 4095) (free 4095 (omega arith)) in let g = range-inside base high lie (w .0) (w .1) .1 in let h = w .3 in omega arith
+
+    free-touched : T (touches S L (length (b .chain)) (x / 4096))
+    free-touched = byte-touched x (subst (λ (y : ℕ). T (freeAt b y)) (let e : x + 0 ≡ x = omega arith in e) (free 0 (omega arith)))
 
 -- ---- the promise
 
@@ -144,14 +148,14 @@ module _ (base : ℕ) (t : Top) (l A : List ℕ) (n : ℕ) (lying : T (lies base
       let w = of-joined n (λ k. (pageAt l k / 4096) ∷ []) p j in
       elim (w .2) [
         | inr z ↦ z
-        | inl e ↦ T-no (marks .at p) (apart-tables .fresh p i) (subst (λ (y : ℕ). T (marks .at y)) (sym e) (free-touched base high b (pageAt l (w .0)) (free (w .0) (w .1))))
+        | inl e ↦ T-no (marks .at p) (apart-tables .fresh p i) (subst (λ (y : ℕ). T (marks .at y)) (sym e) (free-touched b (pageAt l (w .0)) (free (w .0) (w .1))))
       ]
 
   pub handed : Handed base t l A n
   handed = record {
     whole = λ k h. whole-page b l reads n (each-had n l enough) k h;
     free = free;
-    low = λ k h. free-low base high b (pageAt l k) (free k h) free-lies;
-    high = λ k h. free-high base high b (pageAt l k) (free k h) free-lies;
+    low = λ k h. free-low b (pageAt l k) (free k h) base high free-lies;
+    high = λ k h. free-high b (pageAt l k) (free k h) base high free-lies;
     once = once-append tables (joined n (λ k. (pageAt l k / 4096) ∷ [])) (apart-tables .once) once-pages no-table;
   }

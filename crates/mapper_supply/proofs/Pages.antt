@@ -91,7 +91,7 @@ still-refused (suc n) l t = refuses-asked (taken n (supply true l) .enough) (tak
 -- ---- the pages
 
 module _ (b : Book) (l : List ℕ) (r : Reads b l) (n : ℕ) (had : (k : ℕ) → k < n → ltZ (pageFrom (imageAfter k l) .number) (pos 0) ≡ false) where
-  read-after : (k : ℕ) → k ≤ n → Reads (bookAfter pool k b) (imageAfter k l)
+  pub read-after : (k : ℕ) → k ≤ n → Reads (bookAfter pool k b) (imageAfter k l)
   unfolding bookAfter imageAfter
   read-after zero h = r
   read-after (suc k) h = read-next (bookAfter pool k b) (imageAfter k l) (read-after k (omega arith)) (had k (omega arith))
@@ -118,6 +118,12 @@ module _ (b : Book) (l : List ℕ) (r : Reads b l) (n : ℕ) (had : (k : ℕ) �
     pub free-before : (i : ℕ) → i < 4096 → T (freeAt b (pageAt l k + i))
     unfolding bookAfter
     free-before i h = less-after pool b (r .sound) 0 k (pageAt l k + i) (subst (λ (m : ℕ). T (freeAt (bookAfter pool m b) (pageAt l k + i))) (let e : k ≡ k + 0 = omega arith in e) (free-then i h))
+
+    -- nor is it free any more when all are taken
+    pub gone-after : (i : ℕ) → i < 4096 → T (freeAt (bookAfter pool n b) (pageAt l k + i)) → ⊥
+    gone-after i h t =
+        gone-then i h (less-after pool b (r .sound) (suc k) (n - suc k) (pageAt l k + i)
+        (subst (λ (m : ℕ). T (freeAt (bookAfter pool m b) (pageAt l k + i))) (let e : n ≡ n - suc k + suc k = omega arith in e) t))
 
   -- a page that was handed out is not free any more when the next ones are
   pub later-page : (j k : ℕ) → j < k → k < n → pageAt l j ≢ pageAt l k

@@ -1,14 +1,12 @@
 -- An accepted map can be had: the one free page becomes a table, and an input is translated. Assumes nothing.
 use mathlib.Core.Path.{_≡_, refl, _∙_, ap}
-use mathlib.Core.Bool.{Bool, true, false, not, cond}
+use mathlib.Core.Bool.{true, false, not}
 use mathlib.Core.List.{List, [], _∷_}
-use Prim.Native.Nat.{ℕ, _/_, _≤_}
-use native.Mathlib.Omega.{arith}
+use Prim.Native.Nat.{ℕ, _/_}
 use lib.Dec.{T}
 use lib.IntN.{pos}
 use lib.ListN.{length, replicate}
 use borrow.Author.Tests.{eq-eqb}
-use Rattle.linked_lists.specs.Links.{none}
 use Rattle.rules.specs.Rules.{Range, Book, range, empty, sum, before, without, put, remove, any, find, lowest, unused, up, taken, joined, given, refuse, allocateFrom, allocate, free, Free, step}
 use Rattle.rules_laws.proofs.Kept.{empty-sound}
 use Rattle.rules_laws.proofs.Steps.{step-sound}
@@ -16,14 +14,11 @@ use Rattle.rules_laws.proofs.Lists.{T-true, T-false}
 use Rattle.pool_state.specs.Shown.{pool}
 use Rattle.pool_state.specs.State.{stateOf}
 use Rattle.pool_state.specs.Sound.{bookOf}
-use Rattle.pool_state.specs.declared.MemoryAllocator.{MemoryAllocator}
-use Rattle.pool_state.proofs.Book.{book-back}
 use Rattle.memory_allocator.proofs.Steps.{sound-held}
 use Rattle.image_parts.specs.Layout.{current, imageSize}
 use Rattle.image_parts.proofs.Lawful.{lawful-current, small-pool}
 use Rattle.image_writing.specs.Writing.{imageOf}
 use Rattle.image_reading.specs.Reading.{framed, stateIn, readable}
-use Rattle.image.specs.Reading.{Handed, accepted, refused, readingOf}
 use Rattle.image.proofs.Rounds.{read-written}
 use Rattle.image.proofs.Ways.{framed-frame}
 use Rattle.image_parts.proofs.Loops.{both}
@@ -47,6 +42,7 @@ use Rattle.mapper_supply.proofs.Reading.{Reads, door}
 use Rattle.mapper.specs.Maps.{inTheWay, tried, mapOver}
 use Rattle.mapper.specs.Maps as map
 use Rattle.mapper_walks.specs.Promise.{Mapped}
+use Rattle.mapper_walks.proofs.Right.{book-read}
 use Rattle.mapper_walks.proofs.Walks.{promised}
 
 -- ---- an allocator with one free page
@@ -73,19 +69,11 @@ abbrev top : Top
 top = topOf 0x40000000 0x27
 
 module _ (l : List ℕ) (r : Reads book l) where
-  known : (readable current l ≡ true) × (stateIn current l ≡ stateOf pool book)
-  unfolding readingOf
-  known = go (readable current l) (stateIn current l) (r .reads)
-    where
-      go : (t : Bool) (s : MemoryAllocator) → cond {A = Handed} t (accepted s) (refused current) ≡ accepted (stateOf pool book) → (t ≡ true) × (s ≡ stateOf pool book)
-      go true s e = (refl, ap (λ (h : Handed). h .state) e)
-      go false s e = absurd (let z = ap (λ (h : Handed). h .number) e in let y : ⊥ = omega arith in y)
-
-  small : pool ≤ none
-  small = small-pool current lawful-current
+  known : (readable current l ≡ true) × (bookOf pool (stateIn current l) ≡ book)
+  known = book-read book l r
 
   chain-is : chainIn l ≡ page ∷ []
-  chain-is = ap (λ (s : MemoryAllocator). bookOf pool s .chain) (known .1) ∙ ap (λ (b : Book). b .chain) (book-back pool small book (r .sound) ∙ is-book)
+  chain-is = ap (λ (b : Book). b .chain) (known .1 ∙ is-book)
 
   lying : T (lies 0x40000000 top l A)
   unfolding lies freeLies tablesLie topByte topBytes span every apart insideAll fine tree.joined tree.some tables leadsTo

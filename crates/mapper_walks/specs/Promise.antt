@@ -4,6 +4,7 @@ use mathlib.Core.Bool.{Bool, cond}
 use mathlib.Core.List.{List}
 use mathlib.Core.Path.{_≡_}
 use Prim.Native.Nat.{ℕ, _*_, _/_, _<_}
+use lib.Dec.{T}
 use lib.IntN.{pos}
 use lib.ListN.{length}
 use Rattle.mapper_rules.specs.Walk.{span, Translation, walk, topHeight}
@@ -13,6 +14,7 @@ use Rattle.mapper_laws.specs.Tree.{memory, Once}
 use Rattle.mapper_laws.specs.Mapping.{mappingOf, inRange, asked, mapped}
 use Rattle.mapper_laws.specs.Arena.{shows}
 use Rattle.mapper_laws.specs.Promise.{entryAt, reached, Outside, before, wanted}
+use Rattle.mapper_lies.specs.Lies.{topOf, lies}
 use Rattle.mapper_supply.specs.Supply.{imageAfter, pageAt}
 use Rattle.mapper.specs.Maps.{Left, mapOver}
 
@@ -43,6 +45,8 @@ module _ (base vttbr vtcr output input size : ℕ) (readable writable : Bool) (l
     pub once : Once (reached (words (after .words)) vttbr vtcr)
     -- the pages that were wanted, and no others, are taken from the allocator
     pub taken : after .bytes ≡ imageAfter (wanted q (words A) vttbr vtcr) l
+    -- all lies right once more: no later map is refused for what this one left
+    pub lies-right : T (lies base (topOf vttbr vtcr) (after .bytes) (after .words))
 
   -- of every map that answers 0
   abbrev pub Promised : Type 0
