@@ -1,2 +1,3 @@
--- What the contracts cite of a map.
+-- What the contract of the map cites, and what is promised of a refused one.
 pub mod Maps
+pub mod Refusals

@@ -27,7 +27,7 @@ use Rattle.mapper_laws.proofs.Translated.{Pages, named, leaf-ends, tran
 use Rattle.mapper_laws.proofs.Registers.{Top, top-of}
 
 -- a page that is handed out is the page that its word leads to
-page-of : (a : ℕ) → a % 4096 ≡ 0 → a < 2 ^ 48 → pageOf (tableWord a) ≡ a / 4096
+pub page-of : (a : ℕ) → a % 4096 ≡ 0 → a < 2 ^ 48 → pageOf (tableWord a) ≡ a / 4096
 page-of a e h =
     let d = div-add-mod' a 4096 in
     let n = a / 4096 in
@@ -90,7 +90,7 @@ module _ (q : Mapping) (word : ℕ → ℕ) (vttbr vtcr : ℕ) (page : ℕ → �
   in-below : (j x : ℕ) → j < m → Has pageOf H (f j) x → In x below
   in-below j x l g = in-joined m (λ j. tables pageOf H (f j)) j x l (has-in pageOf H (f j) x g)
 
-  pages : Pages q page N
+  pub pages : Pages q page N
   pages = record {
     whole = fit .whole;
     once = λ k l hk hl e. elim (T-or-not (eqb k l)) [
@@ -107,7 +107,7 @@ module _ (q : Mapping) (word : ℕ → ℕ) (vttbr vtcr : ℕ) (page : ℕ → �
   abbrev Own : ℕ → Type 0
   Own x = In x tops
 
-  own-page : (j : ℕ) → j < m → Own ((first + j) / 512)
+  pub own-page : (j : ℕ) → j < m → Own ((first + j) / 512)
   own-page j l =
       let b = top .begins in
       let p = top .pages in
@@ -124,14 +124,14 @@ module _ (q : Mapping) (word : ℕ → ℕ) (vttbr vtcr : ℕ) (page : ℕ → �
   unfolding wanted
   wanted-is = counted m
 
-  after-is : steps m (λ j. store q page pageOf H (0 + j * span H) (first + j)) start ≡ after q word vttbr vtcr page
+  pub after-is : steps m (λ j. store q page pageOf H (0 + j * span H) (first + j)) start ≡ after q word vttbr vtcr page
   unfolding after
   after-is = ap (λ (g : ℕ → Stored → Stored). steps m g start) (fun-ext (λ j. ap (λ (e : ℕ). store q page pageOf H e (first + j)) (zero-add (j * span H))))
 
-  abbrev words : (k : ℕ) → k < N → T (isTable (tableWord (page k)))
+  abbrev pub words : (k : ℕ) → k < N → T (isTable (tableWord (page k)))
   words = named q page N pages (fit .sane) H first m Own start f
 
-  the-table : Table q page pageOf N words (pages .once) (leaf-ends q) H 0 first m Own start f
+  pub the-table : Table q page pageOf N words (pages .once) (leaf-ends q) H 0 first m Own start f
   the-table = record {
     entries = λ j l. refl;
     own = own-page;

@@ -39,20 +39,20 @@ module _ (q : Mapping) (page pageOf : ℕ → ℕ) where
   -- ---- each way through
 
   module _ (h e i : ℕ) (s : Stored) where
-    store-table : T (opens q (suc h) e) → T (isTable (s .word i)) → store q page pageOf (suc h) e i s ≡ steps 512 (λ j. store q page pageOf h (e + j * span h) (512 * pageOf (s .word i) + j)) s
+    pub store-table : T (opens q (suc h) e) → T (isTable (s .word i)) → store q page pageOf (suc h) e i s ≡ steps 512 (λ j. store q page pageOf h (e + j * span h) (512 * pageOf (s .word i) + j)) s
     unfolding store
     store-table o t = rw (T-true (opens q (suc h) e) o, T-true (isTable (s .word i)) t)
 
-    store-fresh : T (opens q (suc h) e) → T (not (isTable (s .word i)))
+    pub store-fresh : T (opens q (suc h) e) → T (not (isTable (s .word i)))
         → store q page pageOf (suc h) e i s ≡ steps 512 (λ j. store q page pageOf h (e + j * span h) (512 * free (s .handed) + j)) (put i (tableWord (page (s .handed))) (hand (free (s .handed)) s))
     unfolding store
     store-fresh o t = rw (T-true (opens q (suc h) e) o, T-false (isTable (s .word i)) t)
 
-    store-leaf : T (not (opens q (suc h) e)) → T (meets q (suc h) e) → store q page pageOf (suc h) e i s ≡ put i (leafWord q (suc h) e) s
+    pub store-leaf : T (not (opens q (suc h) e)) → T (meets q (suc h) e) → store q page pageOf (suc h) e i s ≡ put i (leafWord q (suc h) e) s
     unfolding store
     store-leaf o m = rw (T-false (opens q (suc h) e) o, T-true (meets q (suc h) e) m)
 
-    store-none : T (not (opens q (suc h) e)) → T (not (meets q (suc h) e)) → store q page pageOf (suc h) e i s ≡ s
+    pub store-none : T (not (opens q (suc h) e)) → T (not (meets q (suc h) e)) → store q page pageOf (suc h) e i s ≡ s
     unfolding store
     store-none o m = rw (T-false (opens q (suc h) e) o, T-false (meets q (suc h) e) m)
 
@@ -92,11 +92,11 @@ module _ (q : Mapping) (page pageOf : ℕ → ℕ) where
     wants-none (Leads d f) o = rw (T-false (opens q (suc h) e) o)
 
   module _ (word : ℕ → ℕ) (h d : ℕ) where
-    leads-table : T (isTable d) → leadsTo pageOf word (suc h) d ≡ Leads d (table (λ j. leadsTo pageOf word h (word (512 * pageOf d + j))))
+    pub leads-table : T (isTable d) → leadsTo pageOf word (suc h) d ≡ Leads d (table (λ j. leadsTo pageOf word h (word (512 * pageOf d + j))))
     unfolding leadsTo
     leads-table t = rw (T-true (isTable d) t)
 
-    leads-ends : T (not (isTable d)) → leadsTo pageOf word (suc h) d ≡ Ends d
+    pub leads-ends : T (not (isTable d)) → leadsTo pageOf word (suc h) d ≡ Ends d
     unfolding leadsTo
     leads-ends t = rw (T-false (isTable d) t)
 
@@ -256,7 +256,7 @@ module _ (q : Mapping) (page pageOf : ℕ → ℕ) where
       abbrev old : ℕ → Entry
       old = table (λ j. leadsTo pageOf (s .word) h (s .word (512 * pageOf d + j)))
 
-      table-ready : Ready (suc h) i s (Leads d old) → s .handed + wants q (suc h) e (Leads d old) ≤ N → Table h e (512 * pageOf d) 512 (λ x. x ≡ pageOf d) s old
+      pub table-ready : Ready (suc h) i s (Leads d old) → s .handed + wants q (suc h) e (Leads d old) ≤ N → Table h e (512 * pageOf d) 512 (λ x. x ≡ pageOf d) s old
       unfolding Apart Has
       table-ready rd room = record {
         entries = λ j lt. ap (λ (k : ℕ). leadsTo pageOf (s .word) h (s .word (512 * pageOf d + k))) (sym (mod-eq-of-lt lt));
@@ -319,7 +319,7 @@ module _ (q : Mapping) (page pageOf : ℕ → ℕ) where
       abbrev blank : ℕ → Entry
       blank j = Ends 0
 
-      fresh-ready : (x : ℕ) → Ready (suc h) i s (Ends x) → n + wants q (suc h) e (Ends x) ≤ N → Table h e (512 * free n) 512 (λ x. x ≡ free n) begun blank
+      pub fresh-ready : (x : ℕ) → Ready (suc h) i s (Ends x) → n + wants q (suc h) e (Ends x) ≤ N → Table h e (512 * free n) 512 (λ x. x ≡ free n) begun blank
       fresh-ready x rd room =
           let w = wants-fresh h e x o in
           record {

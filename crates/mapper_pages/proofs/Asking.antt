@@ -75,6 +75,11 @@ unfolding taken
 taken-more m zero s = ap (λ (k : ℕ). taken k s) (let e : m ≡ m + 0 = omega arith in e)
 taken-more m (suc n) s = ap asked (taken-more m n s) ∙ ap (λ (k : ℕ). taken k s) (let e : suc (m + n) ≡ m + suc n = omega arith in e)
 
+no-more : (n : ℕ) (l : List ℕ) → supply false l ≡ taken n (supply false l)
+unfolding taken
+no-more zero l = refl
+no-more (suc n) l = asked-none l ∙ ap asked (no-more n l)
+
 none-taken : (n : ℕ) (s : Supply) → n ≡ 0 → s ≡ taken n s
 unfolding taken
 none-taken n s e = rw e
@@ -136,6 +141,12 @@ module _ (q : Mapping) (b : ℕ) (A : List ℕ) where
   unfolding taken
   at-fresh h e d w s a n o t ea er =
       er ∙ ap (taken (wantsIn q b A true (h - 1) e w 512)) ea ∙ taken-more 1 (wantsIn q b A true (h - 1) e w 512) s ∙ ap (λ (i : ℕ). taken i s) (fresh-wants h e d w n o t)
+
+  -- where its page is not to be had, none of those below it is asked for
+  pub at-wanting : (h e d : ℕ) (s : Supply) (f : Bool) (l : List ℕ) → h ≢ 0 → opens q h e ≡ true → isTable d ≡ false
+      → f ≡ false → supply f l ≡ asked s → supply f l ≡ taken (wantsAt q b A h e d) s
+  at-wanting h e d s f l n o t none ea =
+      at-fresh h e d 0 s (supply f l) n o t ea (ap (λ (c : Bool). supply c l) none ∙ no-more (wantsIn q b A true (h - 1) e 0 512) l ∙ ap (λ (c : Bool). taken (wantsIn q b A true (h - 1) e 0 512) (supply c l)) (sym none))
 
   -- ---- one entry after another
 

@@ -103,18 +103,21 @@ fn ask_at(
             );
         }
         let had = ask_page(image, enough);
-        return ask_in(
-            arena,
-            first,
-            image,
-            q,
-            height - 1,
-            e,
-            0,
-            TABLE_WORDS,
-            true,
-            had,
-        );
+        if had {
+            return ask_in(
+                arena,
+                first,
+                image,
+                q,
+                height - 1,
+                e,
+                0,
+                TABLE_WORDS,
+                true,
+                had,
+            );
+        }
+        return had;
     }
     enough
 }

@@ -22,7 +22,7 @@ use lib.ListN.{length}
 use Rattle.mapper_rules.specs.Walk.{span}
 use Rattle.mapper_blocks.proofs.Strides.{stride, entry-room, table-room, page-words}
 use Rattle.mapper_pages.specs.Pages.{supply, taken, wantsIn}
-use Rattle.mapper_pages.proofs.Asking.{at-page, at-shut, at-table, at-fresh, none-yet, one-more, all-taken}
+use Rattle.mapper_pages.proofs.Asking.{at-page, at-shut, at-table, at-fresh, at-wanting, none-yet, one-more, all-taken}
 
 abbrev μ-ask-at : Measures 2 ask-at-kinds.ps ℕ
 μ-ask-at κs a = 2 * a .1 .1 .1 .1 .0
@@ -235,7 +235,7 @@ ask-at-ask-in-requires-2 : (t : ℕ) → ask-at-lts.Need-ask-in-requires-2 (
   ask-page-reads.Learnt,
 ) (ask-at-at t) ask-at.Post
 ask-at-ask-in-requires-2 t c κs =
-    let shut = c .before .before .before .before .before .before .before .before .before in
+    let shut = c .before .before .before .before .before .before .before .before .before .before in
     let start = shut .before .before .before in
     let p = start .pre .0 in
     let low = start .pre .1 .0 in
@@ -255,7 +255,7 @@ ask-at-same-length-2 : (t : ℕ) → ask-at-lts.Need-same-length-2 (
   ask-page-reads.Asked,
   ask-page-reads.Learnt,
 ) (ask-at-at t) ask-at.Post
-ask-at-same-length-2 t c = c .before .before .ask-in2 .kept .1 .1 .0 ∙ c .before .before .before .before .before .before .ask-page .kept .0
+ask-at-same-length-2 t c = c .before .before .ask-in2 .kept .1 .1 .0 ∙ c .before .before .before .before .before .before .before .ask-page .kept .0
 
 -- src/lib.rt:95:9
 ask-at-returns-3 : (t : ℕ) → ask-at-lts.Need-returns-3 (
@@ -271,7 +271,7 @@ ask-at-returns-3 : (t : ℕ) → ask-at-lts.Need-returns-3 (
   ask-page-reads.Learnt,
 ) (ask-at-at t) ask-at.Post
 ask-at-returns-3 t c =
-    let had = c .before .before .before .before .before .before in
+    let had = c .before .before .before .before .before .before .before in
     let met = had .before .before .before in
     let opened = met .before .before in
     let shut = opened .before in
@@ -279,7 +279,22 @@ ask-at-returns-3 t c =
     at-fresh (s .q) (s .first) (s .arena .now) (s .height) (s .e) (s .d) 0 (supply (s .enough) (s .image .now)) _ (shut .if1 .left) (sym (opened .word-opens .ensures) ∙ met .before .if2 .taken)
     (sym (met .is-table .ensures) ∙ had .before .before .if3 .left) (had .ask-page .ensures) (c .before .before .ask-in2 .ensures)
 
--- src/lib.rt:73:1
+-- src/lib.rt:117:16
+ask-at-same-length-3 : (t : ℕ) → ask-at-lts.Need-same-length-3 (
+  word-opens-reads.Asked,
+  word-opens-reads.Learnt,
+  is-table-reads.Asked,
+  is-table-reads.Learnt,
+  table-page-reads.Asked,
+  table-page-reads.Learnt,
+  ask-in-below t,
+  ask-in.Post,
+  ask-page-reads.Asked,
+  ask-page-reads.Learnt,
+) (ask-at-at t) ask-at.Post
+ask-at-same-length-3 t c = c .before .before .before .ask-page .kept .0
+
+-- src/lib.rt:117:16
 ask-at-returns-4 : (t : ℕ) → ask-at-lts.Need-returns-4 (
   word-opens-reads.Asked,
   word-opens-reads.Learnt,
@@ -293,6 +308,28 @@ ask-at-returns-4 : (t : ℕ) → ask-at-lts.Need-returns-4 (
   ask-page-reads.Learnt,
 ) (ask-at-at t) ask-at.Post
 ask-at-returns-4 t c =
+    let had = c .before .before .before in
+    let met = had .before .before .before in
+    let opened = met .before .before in
+    let shut = opened .before in
+    let s = shut .before .before .before .args in
+    at-wanting (s .q) (s .first) (s .arena .now) (s .height) (s .e) (s .d) (supply (s .enough) (s .image .now)) _ _ (shut .if1 .left) (sym (opened .word-opens .ensures) ∙ met .before .if2 .taken)
+    (sym (met .is-table .ensures) ∙ had .before .before .if3 .left) (c .if4 .left) (had .ask-page .ensures)
+
+-- src/lib.rt:73:1
+ask-at-returns-5 : (t : ℕ) → ask-at-lts.Need-returns-5 (
+  word-opens-reads.Asked,
+  word-opens-reads.Learnt,
+  is-table-reads.Asked,
+  is-table-reads.Learnt,
+  table-page-reads.Asked,
+  table-page-reads.Learnt,
+  ask-in-below t,
+  ask-in.Post,
+  ask-page-reads.Asked,
+  ask-page-reads.Learnt,
+) (ask-at-at t) ask-at.Post
+ask-at-returns-5 t c =
     let opened = c .before in
     let shut = opened .before in
     let s = shut .before .before .before .args in
@@ -495,7 +532,9 @@ pub +ask-at+ask-in-spec : {M : Type 1} → statement M
     (ask-at-ask-in-requires-2 t)
     (ask-at-same-length-2 t)
     (ask-at-returns-3 t)
-    (ask-at-returns-4 t))
+    (ask-at-same-length-3 t)
+    (ask-at-returns-4 t)
+    (ask-at-returns-5 t))
     λ t. ask-in-lts.spec (
       span-of-reads.Asked,
       span-of-reads.Learnt,

@@ -1,0 +1,2 @@
+-- What is promised of the pages that the door hands out to a map.
+pub mod Supply

@@ -1,0 +1,2 @@
+-- What is promised of an accepted map.
+pub mod Promise
