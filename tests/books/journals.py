@@ -1,7 +1,5 @@
 """Journals: made here byte by byte, as their layout says; whole ones, faulty ones, and ones whose answers are wrong."""
-import re
-
-from ground import Folder, answered, held_to, run
+from ground import Folder, answered, held_to, run, without
 
 KINDS = {"f": 1, "a": 2, "r": 3}
 
@@ -42,7 +40,7 @@ FAULTY = {
 REPLAYED = "Whether the recorded answers are the allocator's own, the books do not show: ./run audit FILE does.\n"
 ELSEWHERE = [("f 0 8", 0), ("a 4 0", 4)]  # the allocator answers 0
 
-# blocks with answers, the status, and what is printed before it is said what is not shown
+# blocks with answers, the status, and what is printed besides
 JUDGED = [
     ("nothing but the version", [], 0, r"block .*There is no call in it\.\nThe books close: by the vouchers and byte by byte 0 bytes are free\.\n"),
     ("an answer that is not the allocator's", ELSEWHERE, 0, r".*The books close: by the vouchers and byte by byte 4 bytes are free, in 1 range\.\n"),
@@ -76,11 +74,13 @@ def cases(words, is_few=False):
         yield "the same vouchers as of its calls", None if is_right else f"{recorded.out}\n{played.out}"
         for name, (given, sentence) in FAULTY.items():
             ended = run("books", folder.write("journal", given))
-            yield held_to(name, ended, 2, rf".*\nThe books do NOT close: the journal is faulty, {sentence}\. Free bytes are, so far, .*\n{re.escape(REPLAYED)}", "")
+            out = rf".*\nThe books do NOT close: the journal is faulty, {sentence}\. Free bytes are, so far, .*\n"
+            yield held_to(name, without(REPLAYED, ended), 2, out, "")
         for version in (0, 2, 27):
             ended = run("books", folder.write("journal", bytes([version]) + journal(("f 5 1", 0))[1:]))
             said = rf"run: .*/journal begins with the byte {version}: it is no text, and no journal of this version, which begins with 1\n"
             yield held_to(f"a journal of version {version}", ended, 2, "", said)
         for name, blocks, status, out in JUDGED:
-            yield held_to(name, run("books", folder.write("journal", journal(*blocks))), status, out + re.escape(REPLAYED), "")
+            ended = run("books", folder.write("journal", journal(*blocks)))
+            yield held_to(name, without(REPLAYED, ended), status, out, "")
         yield from not_shown(folder)

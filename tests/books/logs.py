@@ -1,10 +1,9 @@
 """`./run check`: a box's answers, true or made false at one place, judged against the bytes counted one by one; the tender's fault."""
 import random
-import re
 
 from brute import Brute, by_turns
 from chance import call
-from ground import Folder, answered, bounded, held_to, judged, run
+from ground import Folder, answered, bounded, held_to, judged, run, without
 
 FILES, FEW = 1500, 200
 LINES = 20
@@ -103,7 +102,7 @@ def cases(words, is_few=False):
     with Folder() as folder:
         for name, calls, answers, status, out in LOGS:
             ended = run("check", folder.write("calls", calls), folder.write("answers", answers))
-            yield held_to(name, ended, status, out + re.escape(COMPARED), "")
+            yield held_to(name, without(COMPARED, ended), status, out, "")
     for begin in range(0, bounded(words, FILES, FEW, is_few), 100):
         wrong = next(filter(None, (problem(words, seed) for seed in range(begin, begin + 100))), None)
         yield f"random logs {begin} to {begin + 99}", wrong

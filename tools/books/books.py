@@ -8,7 +8,7 @@ from output import write_file
 from page import Told, page, picture
 from progress import EVERY, Progress
 from reading import Unreadable
-from report import Report, closing, refusals
+from report import Report, closing, last_lines, refusals
 from window import Window
 from words import Words
 
@@ -26,7 +26,7 @@ def books(options, out):
     window = Window(held.calls) if options.pages else None
     enter_all(desk, held, is_recorded, window, out, progress)
     is_right, sentence = closing(desk, f"the journal is faulty, block {held.fault.index} {held.fault}" if held.fault else None)
-    said = [refusals(desk), sentence, *([REPLAY] if is_recorded else [])]
+    said = [refusals(desk), *(last_lines(is_right, sentence, REPLAY) if is_recorded else [sentence])]
     out.write("\n" + "\n".join(said) + "\n")
     out.flush()
     write_pages(options.pages, desk, window, Told(os.path.basename(name), said, is_right, is_recorded, list(held.tally.sayings())))

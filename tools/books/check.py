@@ -5,7 +5,7 @@ from desk import UNEXPLAINED, UNREAD, Desk
 from held import answers_of, called, calls_alone_of, read
 from progress import EVERY, Progress
 from reading import Unreadable
-from report import closing, refusals
+from report import closing, last_lines, refusals
 from words import Words
 
 CLOSES, REFUSED, FAILED = 0, 1, 2
@@ -30,7 +30,7 @@ def check(options, out):
     progress.end()
     do_close, sentence = closing(desk, f"{called(log)} {answered.fault}" if answered.fault else turns.counts_differ(held, answered))
     judged = [refusals(desk)] if desk.entries or not held.calls else []
-    out.write("".join(line + "\n" for line in [*judged, sentence, COMPARE]))
+    out.write("".join(line + "\n" for line in [*judged, *last_lines(do_close, sentence, COMPARE)]))
     return FAILED if not do_close else REFUSED if desk.refused else CLOSES
 
 

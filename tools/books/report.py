@@ -65,6 +65,11 @@ def closing(desk, missing=None):
     return False, f"The books do NOT close{where}{why}. Free bytes are{', so far' if missing else ''}, {sums}."
 
 
+def last_lines(do_close, sentence, caveat):
+    """Behind books that close stands what that does not show; otherwise the last line says why they do not."""
+    return [sentence, caveat] if do_close else [caveat, sentence]
+
+
 def refusals(desk):
     lines = counted(desk.entries, desk.words.noun)
     if not desk.entries:
