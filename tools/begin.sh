@@ -4,7 +4,8 @@
 #   say WHAT       a line on standard error, with the command's name
 #   tell TEXT      a text on standard error, as it is
 #   fail WHAT      says it, and ends with status 1
-#   misuse WHAT    says it and shows what `usage` prints, and ends with status 2
+#   misuse WHAT [FORM]
+#                  says it and shows the form that was meant, or what `usage` prints, and ends with status 2
 #   print TEXT     a text on standard output; where it cannot be written, that is said, and is the end
 # No end is silent, and none depends on standard error: where that is closed or full, the status still tells.
 
@@ -36,7 +37,7 @@ fail() {
 
 misuse() {
   say "$1"
-  tell "$(usage)"
+  tell "${2-$(usage)}"
   exit 2
 }
 

@@ -23,6 +23,10 @@ def asked_wrongly(folder):
     calls = folder.write("calls", "f 0 8")
     for words in (["books"], ["books", calls, calls], ["check", calls], ["check", calls, calls, calls], ["books", calls, "--no"], ["books", calls, "--html"], ["books", calls, "--svg", "-"]):
         yield held_to(" ".join(map(str, words)), run(*words), 2, "", rf"run: .*\n{USAGE}")
+    for word in ("--html", "--svg"):
+        ended = run("check", calls, folder.write("log", "ok"), word, folder / "page")
+        yield held_to(f"check with {word}", ended, 2, "", rf"run: check has no option {word}\n{USAGE}")
+        yield f"then nothing is written by {word}", "something is" if (folder / "page").exists() else None
     yield held_to("--help", run("books", "--help"), 0, USAGE, "")
     yield held_to("both from standard input", run("check", "-", "-"), 2, "", r"run: standard input cannot be both the calls and the answers\n")
     yield held_to("a page over the calls", run("books", calls, "--html", calls), 2, "", r"run: .* is the file of the calls, and would be written over\n")
@@ -39,13 +43,15 @@ def named_like_words(folder):
 
 
 def unreadable(folder):
-    yield held_to("no file", run("books", folder / "none"), 2, "", r"run: .*/none cannot be read: No such file or directory\n")
-    yield held_to("a folder", run("books", folder.path), 2, "", r"run: .* cannot be read: Is a directory\n")
+    calls = folder.write("c", "f 0 1")
+    for words in ([], ["books"], ["check", calls], ["audit"], ["show"], ["record"]):
+        ended = run(*words, folder / "none")
+        yield held_to(f"no file, of {words[:1]}", ended, 2 if words else 1, "", rf"run: there is no file {folder / 'none'}\n")
+    yield held_to("a folder below a file", run("books", calls / "none"), 2, "", r"run: there is no file .*/c/none\n")
+    yield held_to("a folder", run("books", folder.path), 2, "", rf"run: {folder.path} is a folder, and calls are read from a file\n")
+    yield held_to("a folder of answers", run("check", calls, folder.path), 2, "", rf"run: {folder.path} is a folder, and answers are read from a file\n")
     yield held_to("a file without a name", run("books", ""), 2, "", r"run: the name of the file is empty\n")
     yield held_to("a closed input", shell(f"'{RUN}' books - <&-"), 2, "", r"run: standard input cannot be read: Bad file descriptor\n")
-    yield held_to("answers that are none", run("check", folder.write("c", "f 0 1"), folder.write("a", "yes")), 2, "", r"run: .*/a has a line that is no answer: yes\n")
-    cut = run("check", folder.write("c", "l"), folder.write("a", "list 2 4|0 1"))
-    yield held_to("a listing that is cut off", cut, 2, "", r"run: .*/a has a listing of 2 ranges, and after 1 of them its end comes\n")
     recorded = run("check", folder.write("c", b"\x01"), folder.write("a", "ok"))
     yield held_to("a journal as calls", recorded, 2, "", r"run: .*/c is a journal, which has its own answers: \./run books judges them\n")
     few = folder / "few"
@@ -60,7 +66,7 @@ def unreadable(folder):
     shutil.copytree(PROJECT / "tools" / "books", folder / "tool", ignore=shutil.ignore_patterns("__pycache__"))
     other = ["setpriv", "--reuid=65534", "--regid=65534", "--clear-groups"] if os.getuid() == 0 else []
     ended = subprocess.run([*other, sys.executable, "-B", folder / "tool", "books", secret], capture_output=True, text=True)
-    yield held_to("no permission", Ended(ended.returncode, ended.stdout, ended.stderr), 2, "", r"run: .*/secret cannot be read: Permission denied\n")
+    yield held_to("no permission", Ended(ended.returncode, ended.stdout, ended.stderr), 2, "", r"run: the file .*/secret cannot be read: Permission denied\n")
 
 
 def unwritable(folder):
@@ -85,7 +91,8 @@ def far_and_empty(folder):
     marked = run("books", folder.write("calls", b"\xef\xbb\xbf"))
     yield held_to("a byte-order mark alone", marked, 0, r"Read differently: a byte-order mark .*There is no call in it\.\n.*", "")
     yield held_to("comments alone", run("books", folder.write("calls", "# a|# b")), 0, r"Read differently: .*There is no call in it\.\n.*", "")
-    yield held_to("an empty log", run("check", folder.write("calls", b""), folder.write("log", b"")), 0, r"There is no call in it\.\nThe books close: .*", "")
+    nothing = run("check", folder.write("calls", b""), folder.write("log", b""))
+    yield held_to("an empty log of nothing", nothing, 0, r"There is no call in it\.\nThe books close: .*", "")
     yield held_to("/dev/null", run("books", "/dev/null"), 0, r"line .*The books close: .*", "")
     yield held_to("from standard input", run("books", "-", given=b"f 0 8\n"), 0, r"line .* 8 bytes are free, in 1 range\.\n", "")
     whole = folder.write("calls", "f 0 9223372036854775808|l")

@@ -85,6 +85,16 @@ def judged(calls, answers):
     return desk, [desk.enter(*turn) for turn in turns.by_log(read, log)]
 
 
+def without(line, ended):
+    """A report without this line, which stands last where the books close, and otherwise before the last. Where it does not, that is said."""
+    lines = ended.out.splitlines(keepends=True)
+    place = len(lines) - (2 if ended.status == 2 else 1)
+    if [at for at, each in enumerate(lines) if each == line] != [place]:
+        return ended._replace(said=f"it has not, in its place, {line!r}: {ended.out[-1200:]!r}")
+    del lines[place]
+    return ended._replace(out="".join(lines))
+
+
 def held_to(name, ended, status, out=None, said=None):
     """What is wrong with the end of a command: `out` and `said` are patterns of the whole."""
     for what, text, pattern in (("prints", ended.out, out), ("says", ended.said, said)):

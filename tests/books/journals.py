@@ -1,5 +1,5 @@
 """Journals: made here byte by byte, as their layout says; whole ones, faulty ones, and ones whose answers are wrong."""
-from ground import Folder, answered, held_to, run
+from ground import Folder, answered, held_to, run, without
 
 KINDS = {"f": 1, "a": 2, "r": 3}
 
@@ -37,9 +37,13 @@ FAULTY = {
     "two journals in one": (journal(("f 5 1", 0)) * 2, "block 1 has a length that no call has, 256"),
 }
 
-# blocks with answers, the status, and what is printed
+REPLAYED = "Whether the recorded answers are the allocator's own, the books do not show: ./run audit FILE does.\n"
+ELSEWHERE = [("f 0 8", 0), ("a 4 0", 4)]  # the allocator answers 0
+
+# blocks with answers, the status, and what is printed besides
 JUDGED = [
     ("nothing but the version", [], 0, r"block .*There is no call in it\.\nThe books close: by the vouchers and byte by byte 0 bytes are free\.\n"),
+    ("an answer that is not the allocator's", ELSEWHERE, 0, r".*The books close: by the vouchers and byte by byte 4 bytes are free, in 1 range\.\n"),
     ("all of memory", [("f 0 9223372036854775808", 0)], 0, r".*9223372036854775808 bytes are free, in 1 range\.\n"),
     ("a byte freed twice", [("f 7 2", 0), ("f 8 3", 0)], 2, r".*NOT RIGHT: accepted, though byte 8 was free already, since block 0\n.*do NOT close, first at block 1\..*"),
     ("a byte handed out twice", [("f 0 8", 0), ("a 4 0", 0), ("a 4 0", 3)], 2, r".*NOT RIGHT: accepted, though byte 3 was taken, since block 1\n.*"),
@@ -48,6 +52,16 @@ JUDGED = [
     ("a damaged book", [("f 0 8", 0), ("a 8 0", -2)], 1, r".*no 2: the book itself is damaged.*The books close.*"),
     ("a refusal that nothing explains", [("f 0 8", 0), ("a 8 0", -3)], 1, r".*no 3: the vouchers do not show why\n.*The books close.*"),
 ]
+
+
+def not_shown(folder):
+    """Books that close over an answer which the audit finds."""
+    file, page = folder.write("journal", journal(*ELSEWHERE)), folder / "page"
+    yield held_to("the audit finds it", run("audit", file), 1, r"differs 1\n", "")
+    run("books", file, "--html", page)
+    yield "the page says so too", None if REPLAYED.strip().replace("'", "&#x27;") in page.read_text("utf-8") else "it does not"
+    ended = run("books", folder.write("calls", "f 0 8|a 4 0"))
+    yield held_to("of calls nothing of the kind is said", ended, 0, r".*The books close: [^\n]*\n", "")
 
 
 def cases(words, is_few=False):
@@ -60,10 +74,13 @@ def cases(words, is_few=False):
         yield "the same vouchers as of its calls", None if is_right else f"{recorded.out}\n{played.out}"
         for name, (given, sentence) in FAULTY.items():
             ended = run("books", folder.write("journal", given))
-            yield held_to(name, ended, 2, rf".*\nThe books do NOT close: the journal is faulty, {sentence}\. Free bytes are, so far, .*\n", "")
+            out = rf".*\nThe books do NOT close: the journal is faulty, {sentence}\. Free bytes are, so far, .*\n"
+            yield held_to(name, without(REPLAYED, ended), 2, out, "")
         for version in (0, 2, 27):
             ended = run("books", folder.write("journal", bytes([version]) + journal(("f 5 1", 0))[1:]))
             said = rf"run: .*/journal begins with the byte {version}: it is no text, and no journal of this version, which begins with 1\n"
             yield held_to(f"a journal of version {version}", ended, 2, "", said)
         for name, blocks, status, out in JUDGED:
-            yield held_to(name, run("books", folder.write("journal", journal(*blocks))), status, out, "")
+            ended = run("books", folder.write("journal", journal(*blocks)))
+            yield held_to(name, without(REPLAYED, ended), status, out, "")
+        yield from not_shown(folder)

@@ -29,6 +29,8 @@ SENTENCES = [
     (APART + "|r 8192 1 0|r 9216 1024 0", RECORDS + 2, "no 1", FULL),
     ("f 4096, 4096", 1, "bad", "a comma; numbers are parted by a space and have no points or commas in them"),
     ("g 1 2", 1, "bad", "a call begins with f, a, r or l"),
+    ("F 1 2", 1, "bad", "letters are small: f, not F"),
+    ("L", 1, "bad", "letters are small: l, not L"),
     ("f 1", 1, "bad", "f takes 2 numbers, and here is 1"),
     ("f", 1, "bad", "f takes 2 numbers, and here are none"),
     ("l 1", 1, "bad", "l takes no numbers, and here is 1"),

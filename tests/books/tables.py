@@ -6,6 +6,7 @@ from itertools import groupby
 from brute import BYTES, Brute, by_turns, covered
 from chance import call
 from ground import Folder, answered, run
+from journals import journal, signed
 
 FILES = 24
 LINES = 40
@@ -54,6 +55,8 @@ WIDE = [
     "f 0 99999|f 100000 99999|f 200000 99999|a 7 0|r 99990 4 3",
     "f 9 9|f 50 60|f 200 900|f 2000 9000|f 20000 90000|a 99 3|f 99999 99999",
     "f 9223372036854775000 808|f 0 9000000000000000000|a 3 62",
+    "f 100000 1|r 65536 100000 0|f 9 1",  # in hexadecimal the longest address grows by 1, and the longest call by 2
+    "f 9223372036854775000 8|a 1 0",
 ]
 
 
@@ -67,15 +70,26 @@ def crooked(out):
     return None
 
 
-def straight(folder):
-    for calls in WIDE:
-        for words in ([], ["--hex"]):
-            yield f"straight columns{' in hexadecimal' if words else ''}: {calls}", crooked(run("books", folder.write("calls", calls), *words).out)
+def loose(out, calls, address):
+    """A column of calls that is not as wide as the longest of them."""
+    head = out.split("\n")[0]
+    wide, due = head.index("answer") - head.index("call"), 2 + max(len(shown(call, "", address)[0]) for call in calls)
+    return None if wide == due else f"the column of the calls is {wide} wide, and should be {due}: {head!r}"
+
+
+def straight(words, folder):
+    for text in WIDE:
+        calls = text.split("|")
+        recorded = journal(*zip(calls, map(signed, answered(words, calls))))
+        for file in (folder.write("calls", text), folder.write("journal", recorded)):
+            for options, address in (([], str), (["--hex"], hex)):
+                out = run("books", file, *options).out
+                yield f"straight columns of {file.name} {options}: {text}", crooked(out) or loose(out, calls, address)
 
 
 def cases(words, is_few=False):
     with Folder() as folder:
-        yield from straight(folder)
+        yield from straight(words, folder)
         for seed in range(4 if is_few else FILES):
             rng, is_hex = random.Random(seed), seed % 2 == 1
             calls = [call(rng) for _ in range(LINES)]

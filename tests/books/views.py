@@ -97,6 +97,30 @@ def long_and_sparse(folder):
     yield "bytes far apart", sound(text) or (None if "widths are not true" in text else "its widths cannot be true")
 
 
+def table_of(text, heading):
+    """The rows of the table below a heading, each as its cells."""
+    table = text.partition(f"<h2>{heading}</h2>")[2].partition("</table>")[0].partition("<tbody>")[2]
+    return [re.findall(r"<td[^>]*>(.*?)</td>", row) for row in table.split("\n") if row.startswith("<tr")]
+
+
+def left_out(folder):
+    """1104 vouchers and 1103 pieces: what is left out is counted and summed, so that the columns add up."""
+    page = folder / "page.html"
+    run("books", folder.write("many", "|".join(["f 0 5000", "a 5 0", *["a 1 0"] * 1101, "f 0 5"])), "--html", page)
+    text = page.read_text("utf-8")
+    vouchers, pieces = table_of(text, "The vouchers"), table_of(text, "Byte by byte")
+    yield "the vouchers that are left out", differs(vouchers[0], ["804 vouchers, left out here", "+4193", "4193"])
+    yield "the rest of them", differs((len(vouchers), sum(int(row[-2]) for row in vouchers), vouchers[-1][-1]), (301, 3899, "3899"))
+    yield "the bytes that are left out", differs(pieces[-2], ["103 rows more, left out here", "3894"])
+    yield "the rest of these", differs((len(pieces), sum(int(row[-1]) for row in pieces[:-1]), pieces[-1][-1]), (1002, 3899, "3899"))
+    run("books", folder.write("few", "f 0 8|a 4 0"), "--html", page)
+    yield "of few nothing is", "something is" if "left out" in page.read_text("utf-8") else None
+
+
+def differs(got, due):
+    return None if got == due else f"it is {got}, and should be {due}"
+
+
 def in_a_browser(folder):
     if not browser.found():
         print("*** NOT TRIED: THE PAGE IN A BROWSER, SINCE THERE IS NO CHROMIUM HERE (tools/setup installs it where it can be had) ***")
@@ -118,6 +142,6 @@ def in_a_browser(folder):
 
 
 def cases(words, is_few=False):
-    for group in (made, long_and_sparse) if is_few else (made, long_and_sparse, in_a_browser):
+    for group in (made, long_and_sparse, left_out, *([] if is_few else [in_a_browser])):
         with Folder() as folder:
             yield from group(folder)

@@ -12,7 +12,7 @@ ANSWERS = (PROJECT / "crates" / "script" / "stdout").read_text()
 RUN = PROJECT / "run"
 EXAMPLE = like(r"An example session:\n  f 65536 65536         ok\n.*\nusage: ./run FILE.*")
 USAGE = like(r"usage: ./run FILE .*Any other line prints `bad`.*")
-MISUSED = like(r"run: .*\nusage: ./run FILE.*")
+MISUSED = re.compile(r"run: .*\nusage: \./run FILE; \./run --help has the other words\n")  # two lines, which stay in sight
 CARRIAGE = "carriage return at the end of every line"
 MARK = "begins with a byte-order mark"
 

@@ -4,6 +4,7 @@ from collections import namedtuple
 
 from calls import TOP
 from reading import Unreadable
+from words import counted
 
 NUMBER = "(0|[1-9][0-9]{0,19})"
 OK, LIST, RANGE = (re.compile(form) for form in (f"ok {NUMBER}", f"list {NUMBER} {NUMBER}", f"{NUMBER} {NUMBER}"))
@@ -41,7 +42,7 @@ def _ranges(count, lines):
         form = RANGE.fullmatch(text.rstrip("\n")) if text is not None else None
         if not form:
             found = "its end comes" if text is None else f"there is {text.rstrip()}"
-            raise Unreadable(f"has a listing of {count} ranges, and after {len(ranges)} of them {found}")
+            raise Unreadable(f"has a listing of {counted(count, 'range')}, and after {len(ranges)} of them {found}")
         ranges.append((int(form[1]), int(form[2]) + 1))
     return ranges
 

@@ -8,23 +8,25 @@ from output import write_file
 from page import Told, page, picture
 from progress import EVERY, Progress
 from reading import Unreadable
-from report import Report, closing, refusals
+from report import Report, closing, last_lines, refusals
 from window import Window
 from words import Words
 
 CLOSES, REFUSED, FAILED = 0, 1, 2
+
+REPLAY = "Whether the recorded answers are the allocator's own, the books do not show: ./run audit FILE does."
 
 
 def books(options, out):
     name = options.files[0]
     _keep_apart(name, options.pages.values())
     progress = Progress()
-    held, is_recorded = read(name, lambda source: calls_or_journal_of(source, progress))
+    held, is_recorded = read(name, "calls", lambda source: calls_or_journal_of(source, progress))
     desk = Desk(Words(options.is_hex, "block" if is_recorded else "line"))
     window = Window(held.calls) if options.pages else None
     enter_all(desk, held, is_recorded, window, out, progress)
     is_right, sentence = closing(desk, f"the journal is faulty, block {held.fault.index} {held.fault}" if held.fault else None)
-    said = [refusals(desk), sentence]
+    said = [refusals(desk), *(last_lines(is_right, sentence, REPLAY) if is_recorded else [sentence])]
     out.write("\n" + "\n".join(said) + "\n")
     out.flush()
     write_pages(options.pages, desk, window, Told(os.path.basename(name), said, is_right, is_recorded, list(held.tally.sayings())))

@@ -19,23 +19,26 @@ class Misused(Exception):
     pass
 
 
+OPTIONS = {"books": ("--hex", "--html", "--svg"), "check": ("--hex",)}
+
+
 class Options:
     """`files` and what else was asked for."""
 
-    def __init__(self, words):
+    def __init__(self, command, words):
         self.files, self.is_hex, self.pages = [], False, {}
         words = iter(words)
         for word in words:
             if word == "--":
                 self.files += words
+            elif word.startswith("-") and word != "-" and word not in OPTIONS[command]:
+                raise Misused(f"{command} has no option {word}")
             elif word == "--hex":
                 self.is_hex = True
             elif word in ("--html", "--svg"):
                 self.pages[word] = next(words, "")
                 if self.pages[word] in ("", "-"):
                     raise Misused(f"{word} wants the name of a file")
-            elif word.startswith("-") and word != "-":
-                raise Misused(f"there is no option {word}")
             else:
                 self.files.append(word)
 
@@ -70,7 +73,7 @@ def asked(arguments, out):
     if rest and rest[0] in ("-h", "--help"):
         out.write(USAGE + "\n")
         return out.end(CLOSES)
-    options = Options(rest)
+    options = Options(command, rest)
     wanted = 1 if command == "books" else 2
     if len(options.files) != wanted:
         raise Misused(f"{command} takes {counted(wanted, 'file')}, and here {'is' if len(options.files) == 1 else 'are'} {len(options.files) or 'none'}")

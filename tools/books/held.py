@@ -7,7 +7,7 @@ from itertools import islice
 
 import answers
 import journal
-from calls import TOP, covered, text_of
+from calls import TOP, covered, parse, text_of
 from output import Unwritten
 from reading import Tally, Unreadable, blocks
 
@@ -25,28 +25,35 @@ def _written():
 
 
 class Held:
-    """`count` is of lines, `calls` of those that have something in them; `tally` what was read differently; `fault` of a journal."""
+    """`count` is of lines, `calls` of those that have something in them; `tally` what was read differently; `fault` ends a journal, or answers."""
 
     def __init__(self, progress):
         with _written():
             self.file = tempfile.TemporaryFile("w+", encoding="latin-1", newline="\n")
         self.progress, self.tally = progress, Tally()
         self.count = self.calls = 0
-        self.longest, self.digits = 4, 1  # of a line, and of a number
+        self.longest = self.widest = len("call")  # of a line as it is shown, and with its address in hexadecimal
         self.reach = 1  # no accepted call covers this byte, or one after it
         self.fault = None
 
-    def put(self, block):
-        """Lines, each with its end."""
+    def put(self, block, shown=None):
+        """Lines, each with its end; of each is shown what `shown` has, or all."""
         with _written():
             self.file.write(block)
-        lines = block.split("\n")[:-1]
+        shown = block if shown is None else shown
+        lines = shown.split("\n")[:-1]
         self.count += len(lines)
         self.calls += len(lines) - lines.count("")
-        self.longest = max(self.longest, max(map(len, lines)))
-        self.digits = max(self.digits, max(map(len, block.split()), default=1))
-        self.cover(int(start) + int(size) for start, size in OFFERS.findall(block))
+        self._measure(lines)
+        self.cover(int(start) + int(size) for start, size in OFFERS.findall(shown))
         self.progress.at(self.count)
+
+    def _measure(self, lines):
+        self.longest = max(self.longest, max(map(len, lines)))
+        for line in lines:
+            if len(line) + 2 > self.widest:  # no number is longer by more in hexadecimal
+                call = parse(line)
+                self.widest = max(self.widest, len(text_of(call, hex) if call else line))
 
     def cover(self, ends):
         """Bytes up to these may be covered; no call is accepted that passes the last address."""
@@ -85,13 +92,18 @@ def calls_of(source, progress):
 
 
 def answers_of(source, progress):
-    """The lines of a box's answers that have something in them, and how many answers they are."""
+    """The lines of a box's answers that have something in them, and how many answers they are, up to a fault."""
     held = Held(progress)
     for block in blocks(source, held.tally):
         written = "".join(line + "\n" for line in block.split("\n") if line)
         if written:
             held.put(written)
-    held.calls = sum(1 for _ in answers.taken(held.lines()))
+    held.calls = 0
+    try:
+        for _ in answers.taken(held.lines()):
+            held.calls += 1
+    except Unreadable as fault:
+        held.fault = fault
     return held
 
 
@@ -101,29 +113,42 @@ def journal_of(source, progress):
     source.read(len(journal.VERSION))
     recorded = journal.blocks(source)
     while not held.fault:
-        lines, ends = [], []
+        calls, lines, ends = [], [], []
         try:
             for _, call, number in islice(recorded, TOGETHER):
-                lines.append(f"{text_of(call)} {number}\n")
+                calls.append(text_of(call))
+                lines.append(f"{calls[-1]} {number}\n")
                 ends.append(covered(call, number)[1])
         except journal.Faulty as fault:
             held.fault = fault
         if not lines:
             break
-        held.put("".join(lines))
+        held.put("".join(lines), "".join(call + "\n" for call in calls))
         held.cover(ends)
     return held
 
 
-def read(name, reader):
-    """What `reader` makes of a file of bytes; `-` is standard input."""
+def called(name):
+    return "standard input" if name == "-" else name
+
+
+def read(name, what, reader):
+    """What `reader` makes of a file of bytes, of which `what` are read; `-` is standard input."""
     if not name:
         raise Unreadable("the name of the file is empty")
-    shown = "standard input" if name == "-" else name
     try:
         with sys.stdin.buffer if name == "-" else open(name, "rb") as source:
             return reader(source)
     except OSError as error:
-        raise Unreadable(f"{shown} cannot be read: {error.strerror}") from None
+        raise Unreadable(_why(name, what, error)) from None
     except Unreadable as error:
-        raise Unreadable(f"{shown} {error}") from None
+        raise Unreadable(f"{called(name)} {error}") from None
+
+
+def _why(name, what, error):
+    """In the words of the other commands."""
+    if isinstance(error, (FileNotFoundError, NotADirectoryError)):
+        return f"there is no file {name}"
+    if isinstance(error, IsADirectoryError):
+        return f"{name} is a folder, and {what} are read from a file"
+    return f"{'standard input' if name == '-' else f'the file {name}'} cannot be read: {error.strerror}"

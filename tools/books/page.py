@@ -74,9 +74,17 @@ def _vouchers(words, window):
     if window.left_out:
         yield f"<p>The last {len(window.entries)}; {counted(window.left_out, 'voucher')} before them are left out here.</p>\n"
     yield f'<table>\n<thead><tr><th>{words.noun}</th><th>call</th><th>answer</th><th>covers</th><th class="sum">bytes</th><th class="sum">total</th></tr></thead>\n<tbody>\n'
+    if window.left_out:
+        yield _before(window)
     for entry in window.entries:
         yield _voucher(words, entry)
     yield "</tbody>\n</table>\n"
+
+
+def _before(window):
+    """The vouchers that are left out, as one row, so that the column adds up."""
+    total = window.entries[0].total - window.entries[0].change
+    return f'<tr class="left-out"><td colspan="4">{counted(window.left_out, "voucher")}, left out here</td><td class="sum">{total:+}</td><td class="sum">{total}</td></tr>\n'
 
 
 def _voucher(words, entry):
@@ -92,16 +100,20 @@ def _voucher(words, entry):
     return row
 
 
+def _free(first, past, voucher):
+    return past - first if voucher.kind == "f" else 0
+
+
 def _bytes(desk):
-    words, rows = desk.words, islice(desk.book.pieces.all(), MOST_PIECES + 1)
+    words, rows = desk.words, desk.book.pieces.all()
     yield '<h2>Byte by byte</h2>\n<table>\n<thead><tr><th>bytes</th><th>last accepted call</th><th>free</th><th class="sum">bytes</th></tr></thead>\n<tbody>\n'
-    for count, (first, past, voucher) in enumerate(rows):
-        if count == MOST_PIECES:
-            yield f'<tr><td colspan="4">and more, which are left out here</td></tr>\n'
-            break
-        size = past - first if voucher.kind == "f" else 0
+    for first, past, voucher in islice(rows, MOST_PIECES):
+        size = _free(first, past, voucher)
         yield (
             f"<tr><td>{words.range(first, past)}</td><td>{words.voucher(voucher.number)}, {voucher.kind}</td>"
             f'<td>{"yes" if size else "no"}</td><td class="sum">{size}</td></tr>\n'
         )
+    left_out = [_free(*row) for row in rows]
+    if left_out:
+        yield f'<tr class="left-out"><td colspan="3">{counted(len(left_out), "row")} more, left out here</td><td class="sum">{sum(left_out)}</td></tr>\n'
     yield f'<tr><td></td><td></td><td>total</td><td class="sum">{desk.book.summed()}</td></tr>\n</tbody>\n</table>\n'

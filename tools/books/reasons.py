@@ -78,6 +78,8 @@ def no_call(text):
     kind, *fields = text.split(" ")
     if "," in text:
         return "a comma; numbers are parted by a space and have no points or commas in them"
+    if kind.lower() in NUMBERS and kind not in NUMBERS:
+        return f"letters are small: {kind.lower()}, not {kind}"
     if kind not in NUMBERS:
         return "a call begins with f, a, r or l"
     for field in fields:

@@ -1,6 +1,5 @@
 """The books as text: a row a voucher, the bytes by their last voucher, both sums, and a closing sentence."""
 from answers import text_of as answer_text
-from calls import MOST
 from calls import text_of as call_text
 from words import counted
 
@@ -11,8 +10,7 @@ class Report:
     def __init__(self, words, held):
         self.words = words
         self.number = max(len(words.noun), len(str(held.count)))
-        address, digits = len(words.address(held.reach - 1)), min(held.digits, len(str(MOST)))
-        call = held.longest + max(0, len(words.address(min(10**digits, MOST) - 1)) - digits)
+        address, call = len(words.address(held.reach - 1)), held.widest if words.is_hex else held.longest
         self.covers, self.total = max(7, 2 * address + 4), max(5, len(str(held.reach)))
         self.row = f"%{self.number}s  %-{call}s  %-{max(6, 3 + address)}s  %-{self.covers}s  %{1 + self.total}s  %{self.total}s\n"
 
@@ -65,6 +63,11 @@ def closing(desk, missing=None):
     sums = ", ".join(f"{name} {total}" for name, total in by)
     why = f": {missing}" if missing else ""
     return False, f"The books do NOT close{where}{why}. Free bytes are{', so far' if missing else ''}, {sums}."
+
+
+def last_lines(do_close, sentence, caveat):
+    """Behind books that close stands what that does not show; otherwise the last line says why they do not."""
+    return [sentence, caveat] if do_close else [caveat, sentence]
 
 
 def refusals(desk):

@@ -1,5 +1,6 @@
 """Calls and answers by turns: number, text, call and answer of each line or block, from whatever gives the answers."""
 import subprocess
+from itertools import islice
 from pathlib import Path
 
 import answers
@@ -44,8 +45,8 @@ def _again(held):
 
 def by_log(held, log):
     """A box's answers, one a line of the calls, or one a line that has something in it."""
-    every = log.calls == held.count
-    answered = answers.taken(log.lines())
+    every = log.calls + bool(log.fault) == held.count
+    answered = islice(answers.taken(log.lines()), log.calls)
     for number, line in enumerate(held.lines(), 1):
         text = line[:-1]
         if not text and not every:
@@ -61,7 +62,8 @@ def counts_differ(held, log):
     """In words; None where each call has its answer."""
     if log.calls in (held.count, held.calls):
         return None
-    return f"there {'is' if held.calls == 1 else 'are'} {counted(held.calls, 'call')}, and {counted(log.calls, 'answer')}"
+    found = counted(log.calls, "answer") if log.calls else "no answer"
+    return f"there {'is' if held.calls == 1 else 'are'} {counted(held.calls, 'call')}, and {found}"
 
 
 def by_journal(held):
