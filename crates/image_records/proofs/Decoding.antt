@@ -134,12 +134,12 @@ module _ (f : Layout) (l : List ℕ) where
     pub plain-used : (r : Bool) → (flagAt l a ≡ 0 → ⊥) → r ≡ usedAt l a → r ≡ plainAt f l a
     plain-used r some e = rw (ne-eqb (flagAt l a) 0 some) e
 
-  -- as it is tested of a record that was decoded
-  pub used-told : (a b : ℕ) (e : MemoryEntry) (r : Bool) → r ≡ (eqb (flagAt l a) 1 && proper (e .start .0) (e .end .0)) → e ≡ entryIn f l a → a ≡ b → r ≡ usedAt l b
-  used-told a b e r h is here = h ∙ ap (λ (x : MemoryEntry). eqb (flagAt l a) 1 && proper (x .start .0) (x .end .0)) is ∙ ap (λ (k : ℕ). usedAt l k) here
+    pub plain-neither : (flagAt l a ≡ 0 → ⊥) → (flagAt l a ≡ 1 → ⊥) → false ≡ plainAt f l a
+    plain-neither h k = rw (ne-eqb (flagAt l a) 0 h, ne-eqb (flagAt l a) 1 k)
 
-  pub used-proper : (a : ℕ) (e : MemoryEntry) (r : Bool) → r ≡ (eqb (flagAt l a) 1 && proper (e .start .0) (e .end .0)) → r ≡ true → proper (e .start .0) (e .end .0) ≡ true
-  used-proper a e r h on = both (eqb (flagAt l a) 1) _ (sym h ∙ on) .1
+  -- what the tests of a record that was decoded tell of its place
+  pub used-told : (a b : ℕ) (e : MemoryEntry) (r : Bool) → flagAt l a ≡ 1 → r ≡ proper (e .start .0) (e .end .0) → e ≡ entryIn f l a → a ≡ b → r ≡ usedAt l b
+  used-told a b e r on h is here = (h ∙ ap (λ (x : MemoryEntry). proper (x .start .0) (x .end .0)) is ∙ sym (rw (eq-eqb (flagAt l a) 1 on))) ∙ ap (λ (k : ℕ). usedAt l k) here
 
   module _ (n i : ℕ) (b : i < n) where
     pub plain-next : true ≡ plainAt f l (recordAt f i) → plain f l (n - (i + 1)) (i + 1) ≡ plain f l (n - i) i

@@ -15,12 +15,9 @@ use image_parts::records::MemoryEntry;
 use pool_state::Address;
 use pool_state::POOL;
 use pool_state::RecordIndex;
-ghost use mathlib.Core.Bool.{_&&_};
 ghost use mathlib.Core.Path.{_≡_};
 ghost use Prim.Native.Nat.{_+_, _*_, _≤_};
-ghost use lib.Dec.{eqb};
 ghost use lib.ListN.{length};
-ghost use Rattle.check_records.specs.Records.{proper};
 ghost use Rattle.image_parts.specs.Layout.{Lawful, Housed, imageSize, recordSize};
 ghost use Rattle.pool_state.specs.Lent.{was};
 ghost use Rattle.pool_state.specs.Shown.{pool};
@@ -76,16 +73,6 @@ fn record_in(image: &[u8], form: Layout, at: usize) -> MemoryEntry
     }
 }
 
-// Whether a record with this enabled byte is in use, and holds a proper range.
-fn is_used(flag: u8, e: MemoryEntry) -> bool
-    ensures { λ r. ⌜ r ≡ (eqb flag 1 && proper (e .start .0) (e .end .0)) ⌝ }
-{
-    if flag == 1 {
-        return is_proper(e.start, e.end);
-    }
-    false
-}
-
 // The records, into arrays that are fresh: an unused one is left as it is, and so are the places past those that the layout has. Those in use are
 // counted on the way, so that the check of the state need not go through the records again.
 pub fn read_records(
@@ -117,8 +104,11 @@ pub fn read_records(
             }
             return Tally::Broken;
         }
+        if flag != 1 {
+            return Tally::Broken;
+        }
         let e = record_in(image, form, at);
-        if is_used(flag, e) {
+        if is_proper(e.start, e.end) {
             start[i] = e.start.0;
             end[i] = e.end.0;
             enabled[i] = true;
