@@ -80,6 +80,32 @@ def invisible(folder):
     yield "only the rest of the input counts", ended.problem(0, "bad\n", re.compile(rf"run: standard input has a {CARRIAGE}.*\n"))
 
 
+def upgraded(folder):
+    """An image of before into a new file, over itself and once more; one that is none, and one that is not there."""
+    older, current = ((PROJECT / "crates" / "upgrade" / name).read_bytes() for name in ("stdin", "stdout"))
+    old, new = folder / "old.image", folder / "new.image"
+    old.write_bytes(older)
+    new.write_bytes(b"kept")
+    yield "upgrade", run([RUN, "upgrade", old, new]).problem(0, "", "") or _held(new, current) or _held(old, older)
+    yield "upgrade of what was upgraded", run([RUN, "upgrade", new, new]).problem(0, "", "") or _held(new, current)
+    yield "upgrade of a file into itself", run([RUN, "upgrade", "--", old, old]).problem(0, "", "") or _held(old, current)
+    new.write_bytes(b"kept")
+    for what, given in (("another total", older[:12] + bytes([older[12] ^ 1]) + older[13:]), ("a byte less", older[:-1]), ("no byte", b"")):
+        old.write_bytes(given)
+        yield f"upgrade of an image with {what}", run([RUN, "upgrade", old, new]).problem(1, "no 2\n", "") or _held(new, b"kept")
+    missing = folder / "none"
+    yield "upgrade of a file that is not there", run([RUN, "upgrade", missing, new]).problem(2, "", f"run: there is no file {missing}\n") or _held(new, b"kept")
+    yield "upgrade into a folder", run([RUN, "upgrade", old, folder]).problem(2, "", f"run: {folder} is a folder, and an image is written to a file\n")
+    for words in ([], [old], [old, new, new]):
+        said = like(rf"run: `upgrade` takes two files, and here are {len(words)}\nusage: .*")
+        yield f"upgrade with {len(words)} words", run([RUN, "upgrade", *words], cwd=folder).problem(2, "", said)
+
+
+def _held(file, wanted):
+    """What is wrong with the bytes of a file, or nothing."""
+    return None if file.read_bytes() == wanted else f"{file.name} has other bytes than it must"
+
+
 def one_version():
     manifest = (PROJECT / "rust" / "cinghjalofa" / "Cargo.toml").read_text()
     version = (PROJECT / "VERSION").read_text().strip()
@@ -87,12 +113,13 @@ def one_version():
 
 
 def cases():
-    built = Running([PROJECT / "tools" / "program", "script"]).end(BUILDING_SECONDS)
-    if built.status:
-        yield "the script program", built.problem(0, "", None)
-        return
+    for program in ("script", "upgrade"):
+        built = Running([PROJECT / "tools" / "program", program]).end(BUILDING_SECONDS)
+        if built.status:
+            yield f"the program {program}", built.problem(0, "", None)
+            return
     with tempfile.TemporaryDirectory() as folder:
-        for group in (asked_by_words, misused, nothing_to_answer, invisible):
+        for group in (asked_by_words, misused, nothing_to_answer, invisible, upgraded):
             for what, problem in group(Path(folder)):
                 yield f"./run: {what}", problem
     yield from one_version()

@@ -1,10 +1,8 @@
 // The calls as C has them: over a lent image, with one signed number as the answer.
 use account_state::NEVER;
 use calls::INVALID_ENTRY;
-use image::ImageAnswer;
 use image_calls::list_over;
 use image_parts::layout::IMAGE;
-use image_upgrade::upgrade_image;
 use image_writing::write_fields;
 use memory_allocator::Address;
 use memory_allocator::Request;
@@ -18,7 +16,7 @@ use pool_state::POOL;
 use pool_state::RecordIndex;
 ghost use mathlib.Core.Path.{_≡_};
 ghost use Rattle.image_parts.specs.Layout.{current};
-ghost use Rattle.c_calls.specs.CCalls.{returned, newOver, upgradeOver, allocateOver, reserveOver, freeOver, allocatePagesOver, freePagesOver};
+ghost use Rattle.c_calls.specs.CCalls.{returned, newOver, allocateOver, reserveOver, freeOver, allocatePagesOver, freePagesOver};
 ghost use Rattle.c_calls.specs.Lists.{BatchOver};
 
 mod journal;
@@ -55,17 +53,6 @@ pub extern "C" fn cinghjalofa_new(image: &mut [u8]) -> i64
         &links,
     );
     BEGUN
-}
-
-// The image of any version, written as the current one.
-#[no_mangle]
-pub extern "C" fn cinghjalofa_upgrade(old: &[u8], image: &mut [u8]) -> i64
-    ensures { λ r. ⌜ returned r (now (image .exit)) ≡ upgradeOver (now (old .entry)) (now (image .entry)) ⌝ }
-{
-    match upgrade_image(old, image) {
-        ImageAnswer::Done => BEGUN,
-        ImageAnswer::InvalidEntry => INVALID_ENTRY,
-    }
 }
 
 // `size` bytes from a multiple of 2^order; the answer is the address of the first.

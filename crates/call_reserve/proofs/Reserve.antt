@@ -2,11 +2,11 @@
 use Prim.Native.Nat.{ℕ, suc, _+_, _-_, _<_, _≤_}
 use mathlib.Core.Bool.{cond}
 use mathlib.Core.Logic.{_≢_}
-use mathlib.Core.Path.{_≡_, ap, _∙_}
+use mathlib.Core.Path.{_≡_, sym, ap, subst}
 use lib.Dec.{leb, leb→le}
 use native.Mathlib.Omega.{arith}
 use borrow.Author.Tests.{eq-eqb, ne-eqb, lt-ltb, le-ltb}
-use Rattle.rules.specs.Rules.{top, Range, Book, accepted, refused, refuse, reserve, reserveFrom, total, taken, contains, up, down, find}
+use Rattle.rules.specs.Rules.{top, Range, Book, Answer, accepted, refused, refuse, reserve, reserveFrom, total, taken, contains, up, down, find}
 use Rattle.rules_laws.proofs.Lists.{and-l, and-r}
 use Rattle.rules_laws.proofs.Facts.{up-plain, down-plain}
 use Rattle.pool_state.specs.State.{Holds}
@@ -15,7 +15,12 @@ use Rattle.pool_state.specs.declared.MemoryAllocator.{MemoryAllocator}
 use Rattle.pool_links.specs.Hits.{hitOf}
 use Rattle.pool_links.specs.declared.Hit.the-variants.{At, Nothing}
 use Rattle.pool_take.specs.Take.{Asks, refuses}
+use Rattle.calls.specs.Answers.{Answers}
+use Rattle.calls.specs.declared.Answer as answer
+use Rattle.calls.proofs.Endings.{same-answer}
 use Rattle.call_reserve.specs.Piece.{reservePiece}
+use Rattle.call_reserve.specs.Served.{servedAs}
+use Rattle.call_reserve.specs.declared.Served.{Served}
 use Rattle.pool_links.proofs.Hits.{hit-at, hit-nothing}
 
 module _ (n s z o : ℕ) (b : Book) where
@@ -48,6 +53,10 @@ unfolding reserve refuse
 reserve-plain n s z b e g f =
     let d : up 0 (s + z) - down 0 s ≤ total b = let p = up-plain (s + z) in let q = down-plain s in omega arith in
     rw (ne-eqb z 0 e, le-ltb (total b) z g, le-ltb top (s + z) f, le-ltb (total b) (up 0 (s + z) - down 0 s) d, up-plain (s + z), down-plain s)
+
+-- the answer that is made of what came of a piece
+pub served-as : (n : ℕ) (w w′ : Answer) (r : answer.Answer) (k : Served) (s : MemoryAllocator) → w ≡ w′ → r ≡ servedAs k → Answers n w′ (servedAs k) s → Answers n w r s
+served-as n w w′ r k s e f h = same-answer n w w′ r s e (subst (λ (x : answer.Answer). Answers n w′ x s) (sym f) h)
 
 module _ (n a t : ℕ) (b : Book) (some-byte : a < t) where
   pub not-inside : Nothing ≡ hitOf (find (contains a t) (b .chain)) → reservePiece n a t b ≡ refused 4 b

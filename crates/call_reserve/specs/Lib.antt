@@ -1,2 +1,3 @@
 -- What the contract of a search with its move cites.
 pub mod Piece
+pub mod Served

@@ -11,12 +11,31 @@ use pool_state::RecordIndex;
 use pool_state::TOP;
 use pool_take::define_used_memory;
 use rounding::align_address_and_size;
+ghost use mathlib.Core.Path.{_≡_};
 ghost use Prim.Native.Nat.{_+_, _<_, _≤_};
 ghost use Rattle.rules.specs.Rules.{top, reserve};
 ghost use Rattle.pool_state.specs.Shown.{pool};
 ghost use Rattle.pool_state.specs.Lent.{HoldsSome};
 ghost use Rattle.calls.specs.Answers.{Follows};
 ghost use Rattle.call_reserve.specs.Piece.{reservePiece};
+ghost use Rattle.call_reserve.specs.Served.{servedAs};
+
+// What came of a piece. It holds no address, so that it is handed on in a register, and no answer is copied.
+pub enum Served {
+    Taken,
+    NoRecord,
+    Outside,
+}
+
+fn answer_of(served: Served) -> Answer
+    ensures { λ r. ⌜ r ≡ servedAs served ⌝ }
+{
+    match served {
+        Served::Taken => Answer::Accepted(Address(0)),
+        Served::NoRecord => Answer::NoEntry,
+        Served::Outside => Answer::InvalidRequest,
+    }
+}
 
 // The bytes from `address` to before `past` are taken, if one range has them all.
 fn reserve_piece(
@@ -32,14 +51,14 @@ fn reserve_piece(
     lnext: &mut [u16; POOL],
     address: Address,
     past: Address,
-) -> Answer
+) -> Served
     requires { ⌜ HoldsSome pool total first heads start end enabled previous next lprev lnext ⌝ }
     requires { ⌜ (address .0 < past .0) × (past .0 ≤ top) ⌝ }
-    ensures { λ k. ⌜ Follows pool (reservePiece pool (address .0) (past .0)) k total first heads start end enabled previous next lprev lnext ⌝ }
+    ensures { λ k. ⌜ Follows pool (reservePiece pool (address .0) (past .0)) (servedAs k) total first heads start end enabled previous next lprev lnext ⌝ }
 {
     let hit = search_entry_containing_address(start, end, next, RecordIndex(*first), address, past);
     let Hit::At(i) = hit else {
-        return Answer::InvalidRequest;
+        return Served::Outside;
     };
     let moving = define_used_memory(
         total,
@@ -57,8 +76,8 @@ fn reserve_piece(
         past,
     );
     match moving {
-        Moving::Done => Answer::Accepted(Address(0)),
-        Moving::NoRecord => Answer::NoEntry,
+        Moving::Done => Served::Taken,
+        Moving::NoRecord => Served::NoRecord,
     }
 }
 
@@ -115,7 +134,7 @@ pub fn reserve_in(
             0,
         );
     }
-    reserve_piece(
+    let served = reserve_piece(
         total,
         first,
         heads,
@@ -128,5 +147,6 @@ pub fn reserve_in(
         lnext,
         address,
         Address(address.0 + size),
-    )
+    );
+    answer_of(served)
 }

@@ -10,12 +10,13 @@ use Rattle.rules_laws.proofs.Facts.{widened}
 use Rattle.pool_state.specs.Shown.{pool}
 use Rattle.calls.specs.declared.Answer.the-variants.{NoMemory, InvalidRequest}
 use Rattle.calls.proofs.Endings.{refusal, same-answer}
-use Rattle.call_reserve.proofs.Reserve.{reserve-zero, reserve-order, reserve-few, reserve-past, reserve-plain, Passed}
+use Rattle.call_reserve.proofs.Reserve.{reserve-zero, reserve-order, reserve-few, reserve-past, reserve-plain, Passed, served-as}
 use Rattle.call_reserve.proofs.reserve_in.Reads as reserve-in
 use Rattle.call_reserve.proofs.reserve_in.Kinds as reserve-in-kinds
 use Rattle.call_reserve.proofs.+reserve_in.Lts-reserve_in as reserve-in-lts
 use Rattle.rounding.proofs.align_address_and_size.Reads as align-address-and-size-reads
 use Rattle.call_reserve.proofs.reserve_piece.Reads as reserve-piece-reads
+use Rattle.call_reserve.proofs.answer_of.Reads as answer-of-reads
 use Rattle.call_reserve.proofs.+reserve_in.{statement}
 use Rattle.call_reserve.proofs.+reserve_in.Tie.{close}
 
@@ -38,6 +39,8 @@ called t = (
   reserve-in.Post,
   reserve-piece-reads.Asked,
   reserve-piece-reads.Learnt,
+  answer-of-reads.Asked,
+  answer-of-reads.Learnt,
 )
 
 -- the place where all lines have been passed, and the start
@@ -115,8 +118,8 @@ reserve-in-returns-6 t c b h =
     (widened pool (x .address .0) (x .size) (x .order) b (p .some) (p .order) (omega (arith, h .counts, p .enough)) (p .ends) ∙ sym (λ z. reserve pool (e₁ z) (e₂ z) 0 b))
     (c .reserve-in .ensures b h)
 
-reserve-in-add-t16 : (t : ℕ) → reserve-in-lts.Need-add-t16 (called t) (reserve-in-at t) reserve-in.Post
-reserve-in-add-t16 t c =
+reserve-in-add-t17 : (t : ℕ) → reserve-in-lts.Need-add-t17 (called t) (reserve-in-at t) reserve-in.Post
+reserve-in-add-t17 t c =
     search needs
 
 reserve-in-reserve-piece-requires : (t : ℕ) → reserve-in-lts.Need-reserve-piece-requires (called t) (reserve-in-at t) reserve-in.Post
@@ -125,14 +128,19 @@ reserve-in-reserve-piece-requires t c κs =
     let p = passed t l in
     (at-start t l .pre .1, ((let e = p .some in omega arith), p .ends))
 
+reserve-in-answer-of-requires : (t : ℕ) → reserve-in-lts.Need-answer-of-requires (called t) (reserve-in-at t) reserve-in.Post
+reserve-in-answer-of-requires t c κs =
+    search needs
+
 reserve-in-returns-7 : (t : ℕ) → reserve-in-lts.Need-returns-7 (called t) (reserve-in-at t) reserve-in.Post
 reserve-in-returns-7 t c b h =
-    let q = plain t (c .before) in
+    let d = c .before in
+    let q = plain t (d .before) in
     let x = at-start t (q .before) .args in
     let p = passed t (q .before) in
-    same-answer pool _ _ _ _
+    served-as pool _ _ _ (d .reserve-piece .result) _
     (ap (λ (o : ℕ). reserve pool (x .address .0) (x .size) o b) (q .if6 .left) ∙ reserve-plain pool (x .address .0) (x .size) b (p .some) (omega (arith, h .counts, p .enough)) (p .ends))
-    (c .reserve-piece .ensures b h)
+    (c .answer-of .ensures) (d .reserve-piece .ensures b h)
 
 pub +reserve-in-spec : {M : Type 1} → statement M
 +reserve-in-spec = close μ-reserve-in λ t. reserve-in-lts.spec (called t)
@@ -146,6 +154,7 @@ pub +reserve-in-spec : {M : Type 1} → statement M
     (reserve-in-align-address-and-size-requires t)
     (reserve-in-reserve-in-requires t)
     (reserve-in-returns-6 t)
-    (reserve-in-add-t16 t)
+    (reserve-in-add-t17 t)
     (reserve-in-reserve-piece-requires t)
+    (reserve-in-answer-of-requires t)
     (reserve-in-returns-7 t)

@@ -1,10 +1,10 @@
 use mathlib.Core.Path.{sym, ap, _∙_}
 use Rattle.image.specs.declared.ImageAnswer.{ImageAnswer}
 use Rattle.c_calls.specs.CCalls.{returned}
-use Rattle.c_calls.proofs.Upgrade.{codeOf, upgrade-told}
+use Rattle.c_upgrade.proofs.Upgrade.{codeOf, upgrade-told}
 use borrow.Author.Needs.{needs}
-use Rattle.c_calls.proofs.cinghjalofa_upgrade.Statement.{statement}
-use Rattle.c_calls.proofs.cinghjalofa_upgrade.Tie as tie
+use Rattle.c_upgrade.proofs.cinghjalofa_upgrade.Statement.{statement}
+use Rattle.c_upgrade.proofs.cinghjalofa_upgrade.Tie as tie
 
 upgrade-image-requires : tie.Need-upgrade-image-requires
 upgrade-image-requires c κs = search needs

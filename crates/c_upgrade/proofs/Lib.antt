@@ -1,0 +1,2 @@
+-- What an upgrade returns.
+pub mod Upgrade
