@@ -1,12 +1,12 @@
 // The calls as C has them: over a lent image, with one signed number as the answer.
 use account_state::NEVER;
+use c_over::call_over;
 use calls::INVALID_ENTRY;
 use image_calls::list_over;
 use image_parts::layout::IMAGE;
 use image_writing::write_fields;
 use memory_allocator::Address;
 use memory_allocator::Request;
-pub use over::call_over;
 use pages::bytes_of;
 use pages::freed_bytes;
 use pages::raised_order;
@@ -16,11 +16,12 @@ use pool_state::POOL;
 use pool_state::RecordIndex;
 ghost use mathlib.Core.Path.{_≡_};
 ghost use Rattle.image_parts.specs.Layout.{current};
-ghost use Rattle.c_calls.specs.CCalls.{returned, newOver, allocateOver, reserveOver, freeOver, allocatePagesOver, freePagesOver};
-ghost use Rattle.c_calls.specs.Lists.{BatchOver};
+ghost use Rattle.c_over.specs.CCalls.{returned, newOver, allocateOver, reserveOver, freeOver, allocatePagesOver, freePagesOver};
+ghost use Rattle.c_over.specs.Lists.{BatchOver};
 
+mod holders;
 mod journal;
-mod over;
+mod upgrade;
 
 // What the call that begins an image answers.
 const BEGUN: i64 = 0;

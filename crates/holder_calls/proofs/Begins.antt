@@ -16,9 +16,9 @@ use Rattle.calls.specs.declared.Answer.the-variants.{InvalidEntry}
 use Rattle.image_parts.specs.Layout.{Layout, Figured, imageSize}
 use Rattle.image_parts.proofs.Loops as loops
 use Rattle.image_writing.specs.Writing.{imageOf}
-use Rattle.c_calls.specs.CCalls as allocator
-use Rattle.c_calls.specs.CCalls.{Returned, returned}
-use Rattle.c_calls.proofs.Demand.{new-written}
+use Rattle.c_over.specs.CCalls as allocator
+use Rattle.c_over.specs.CCalls.{Returned, returned}
+use Rattle.c_over.proofs.Demand.{new-written}
 use Rattle.holder_rules.specs.Register.{entries, blanks}
 use Rattle.holder_rules.specs.declared.Entry.{Entry}
 use Rattle.holder_image.specs.Layout.{memoryAt, wholeSize}

@@ -19,9 +19,9 @@ use Rattle.image_reading.specs.Reading.{framed, readable}
 use Rattle.image.specs.Writing.{Image}
 use Rattle.image.specs.Reading.{readingOf}
 use Rattle.image.proofs.Rounds.{image-accepted}
-use Rattle.c_calls.specs.CCalls.{Returned}
-use Rattle.c_calls.specs.Images.{images, bookIn}
-use Rattle.c_calls.proofs.Demand.{obeys}
+use Rattle.c_over.specs.CCalls.{Returned}
+use Rattle.c_over.specs.Images.{images, bookIn}
+use Rattle.c_over.proofs.Demand.{obeys}
 use Rattle.holder_rules.specs.Register.{entries, known, blank, blanks, replace}
 use Rattle.holder_rules.specs.Holders.{Holding, both, nothing, Answer, offer, giveBack, take, asked, Call, Offer, By, step, Voucher, voucher, run, trail}
 use Rattle.holder_rules.specs.Sound.{Has, Held, SoundEntries, registerSound}

@@ -18,9 +18,9 @@ use Rattle.linked_lists.proofs.Laws.{true≢false, length-tab}
 use Rattle.calls.specs.Calls.{numberFrom, voucherFrom, signedOf}
 use Rattle.calls.specs.declared.Answer.the-variants.{InvalidEntry}
 use Rattle.image_parts.specs.Layout.{Layout}
-use Rattle.c_calls.specs.CCalls as allocator
-use Rattle.c_calls.specs.CCalls.{Returned, returned}
-use Rattle.c_calls.specs.Images.{images}
+use Rattle.c_over.specs.CCalls as allocator
+use Rattle.c_over.specs.CCalls.{Returned, returned}
+use Rattle.c_over.specs.Images.{images}
 use Rattle.holder_rules.specs.Register.{entries, known, held, full, enter, yours, leave}
 use Rattle.holder_rules.specs.Holders.{Holding, both, Answer, refused, refuse, unlessRefused, unlessOther, offer, giveBack, piece, takeAs, take, asked, Call, Offer, By, step}
 use Rattle.holder_rules.specs.declared.Entry.{Entry}

@@ -26,8 +26,8 @@ use Rattle.image_parts.specs.Layout.{Layout, Figured}
 use Rattle.image_parts.proofs.Lawful.{small-pool}
 use Rattle.image.specs.Reading.{readingOf}
 use Rattle.image.proofs.Rounds.{accepted-image}
-use Rattle.c_calls.specs.CCalls.{Returned, returned, callOver}
-use Rattle.c_calls.proofs.Images.{call-voucher}
+use Rattle.c_over.specs.CCalls.{Returned, returned, callOver}
+use Rattle.c_over.proofs.Images.{call-voucher}
 use Rattle.holder_rules.specs.Sound.{registerSound}
 use Rattle.holder_rules.specs.declared.Entry.{Entry}
 use Rattle.holder_image.specs.Layout.{memoryAt}

@@ -11,8 +11,8 @@ use Rattle.calls.specs.Calls.{signedOf}
 use Rattle.calls.specs.declared.Answer.the-variants.{InvalidEntry}
 use Rattle.image_parts.specs.Layout.{Layout}
 use Rattle.image.specs.Reading.{readingOf}
-use Rattle.c_calls.specs.CCalls.{Returned, returned}
-use Rattle.c_calls.specs.Images.{images, bookIn}
+use Rattle.c_over.specs.CCalls.{Returned, returned}
+use Rattle.c_over.specs.Images.{images, bookIn}
 use Rattle.holder_rules.specs.Register.{entries}
 use Rattle.holder_rules.specs.Holders.{Answer, Call, nothing, step}
 use Rattle.holder_rules.specs.Sound.{registerSound}

@@ -6,7 +6,7 @@ use mathlib.Core.Path.{_≡_}
 use lib.IntN.{ℤ}
 use Rattle.calls.specs.Calls.{numberFrom, addressFrom}
 use Rattle.image_parts.specs.Layout.{Layout}
-use Rattle.c_calls.specs.Images.{images}
+use Rattle.c_over.specs.Images.{images}
 use Rattle.holder_rules.specs.Register.{entries}
 use Rattle.holder_rules.specs.Holders.{Call, Voucher}
 use Rattle.holder_laws.specs.Demand as demands

@@ -13,7 +13,7 @@ use pool_state::POOL;
 ghost use mathlib.Core.Path.{_≡_};
 ghost use lib.ListN.{length};
 ghost use Rattle.image_parts.specs.Layout.{current};
-ghost use Rattle.c_calls.specs.CCalls.{returned};
+ghost use Rattle.c_over.specs.CCalls.{returned};
 ghost use Rattle.pool_state.specs.Lent.{was, is};
 ghost use Rattle.holder_serve.specs.Made.{requested};
 ghost use Rattle.holder_image.specs.Layout.{wholeSize};

@@ -1,5 +1,5 @@
 // The calls on an image that is known to be sound. The allocator is asked on a copy of its bytes, so that nothing has to be undone.
-use c_calls::call_over;
+use c_over::call_over;
 use holder_entries::Place;
 use holder_entries::find_handed;
 use holder_entries::find_unused;
@@ -23,8 +23,8 @@ ghost use lib.Dec.{T};
 ghost use Rattle.rules.specs.Rules.{frees};
 ghost use Rattle.calls.specs.Calls.{callOf};
 ghost use Rattle.image_parts.specs.Layout.{current};
-ghost use Rattle.c_calls.specs.CCalls.{returned};
-ghost use Rattle.c_calls.specs.Images.{images};
+ghost use Rattle.c_over.specs.CCalls.{returned};
+ghost use Rattle.c_over.specs.Images.{images};
 ghost use Rattle.pool_state.specs.Lent.{was, is};
 ghost use Rattle.holder_rules.specs.Holders.{offer, giveBack, take, step, By};
 ghost use Rattle.holder_serve.specs.Made.{requested};

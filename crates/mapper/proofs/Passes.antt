@@ -10,7 +10,7 @@ use lib.ListN.{length, replicate, length-replicate}
 use borrow.Author.Tests.{eq-eqb, ne-eqb}
 use Rattle.linked_lists.proofs.Laws.{true≢false}
 use Rattle.image_parts.specs.Layout.{current, imageSize}
-use Rattle.c_calls.specs.CCalls.{Returned, returned}
+use Rattle.c_over.specs.CCalls.{Returned, returned}
 use Rattle.mapper_rules.specs.Walk.{span, inputTop}
 use Rattle.mapper_rules.specs.Numbers.{badRegisters, badNumbers}
 use Rattle.mapper_laws.specs.declared.Mapping.{Mapping}

@@ -22,7 +22,7 @@ use Rattle.rules_laws.proofs.Lists.{if}
 use Rattle.rules.specs.Rules.{Allocate}
 use Rattle.image_parts.specs.Layout.{current}
 use Rattle.calls.specs.Calls.{addressFrom}
-use Rattle.c_calls.specs.CCalls.{Returned, returned, callOver}
+use Rattle.c_over.specs.CCalls.{Returned, returned, callOver}
 use Rattle.mapper_rules.specs.Walk.{span, isTable}
 use Rattle.mapper_laws.specs.declared.Mapping.{Mapping}
 use Rattle.mapper_laws.specs.Tree.{Entry, Ends, Leads, pageOf, leadsTo, sum}

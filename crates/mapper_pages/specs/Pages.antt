@@ -5,7 +5,7 @@ use Prim.Native.Nat.{ℕ, zero, suc, _+_, _*_}
 use lib.IntN.{pos}
 use lib.Signed.{ltZ}
 use Rattle.image_parts.specs.Layout.{current}
-use Rattle.c_calls.specs.CCalls.{Returned, allocatePagesOver}
+use Rattle.c_over.specs.CCalls.{Returned, allocatePagesOver}
 use Rattle.mapper_rules.specs.Walk.{span}
 use Rattle.mapper_laws.specs.declared.Mapping.{Mapping}
 use Rattle.mapper_laws.specs.Tree.{pageOf, leadsTo, sum}

@@ -13,7 +13,7 @@ ghost use mathlib.Core.Path.{_≡_};
 ghost use Prim.Native.Nat.{_+_, _*_, _^_, _≤_};
 ghost use Rattle.pool_state.specs.Lent.{was, is};
 ghost use Rattle.calls.specs.Calls.{addressFrom};
-ghost use Rattle.c_calls.specs.CCalls.{returned};
+ghost use Rattle.c_over.specs.CCalls.{returned};
 ghost use Rattle.mapper_rules.specs.Walk.{span};
 ghost use Rattle.mapper_pages.specs.Pages.{pageFrom, supply, asked, taken, wordIn, wantsAt, wantsIn};
 

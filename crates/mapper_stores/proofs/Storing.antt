@@ -8,7 +8,7 @@ use native.Mathlib.Omega.{arith}
 use native.Mathlib.Numerals.{add-one}
 use lib.IntN.{ℤ}
 use Rattle.calls.specs.Calls.{addressFrom}
-use Rattle.c_calls.specs.CCalls.{Returned, returned}
+use Rattle.c_over.specs.CCalls.{Returned, returned}
 use Rattle.mapper_rules.specs.Walk.{span, isTable}
 use Rattle.mapper_laws.specs.declared.Mapping.{Mapping}
 use Rattle.mapper_laws.specs.Tree.{pageOf}

@@ -16,7 +16,7 @@ use Rattle.pool_state.specs.Shown.{pool}
 use Rattle.calls.specs.Calls.{numberFrom}
 use Rattle.pages.specs.Calls.{AllocatePages, byteCall}
 use Rattle.image_parts.specs.Layout.{current}
-use Rattle.c_calls.proofs.Refusals.{refusal-unchanged}
+use Rattle.c_over.proofs.Refusals.{refusal-unchanged}
 use Rattle.mapper_pages.specs.Pages.{pageFrom, Supply, supply, asked, taken}
 use Rattle.mapper_supply.specs.Supply.{imageAfter, pageAt}
 use Rattle.mapper_supply.proofs.Taking.{one, bookAfter, less-after, page-whole, page-free, page-gone}

@@ -30,7 +30,7 @@ use Rattle.image_reading.specs.Reading.{framed, stateIn, readable}
 use Rattle.image_reading.proofs.Whole.{state-sized}
 use Rattle.image.specs.Reading.{accepted, readingOf}
 use Rattle.image.proofs.Rounds.{read-written}
-use Rattle.c_calls.specs.CCalls.{Returned, finished, over, callOver}
+use Rattle.c_over.specs.CCalls.{Returned, finished, over, callOver}
 use Rattle.mapper_pages.specs.Pages.{pageFrom}
 use Rattle.mapper_pages.proofs.Asking.{page-call}
 use Rattle.mapper_supply.proofs.Taking.{one}

@@ -2,8 +2,8 @@
 use Rattle.image_parts.specs.Layout.{Layout, current, Figured}
 use Rattle.image_parts.proofs.Lawful.{figured-current}
 use Rattle.image.proofs.Rounds.{read-same, written-read, refused-exactly}
-use Rattle.c_calls.proofs.Demand.{new-written}
-use Rattle.c_calls.proofs.Refusals.{refusal-unchanged, wrong-length, no-image}
+use Rattle.c_over.proofs.Demand.{new-written}
+use Rattle.c_over.proofs.Refusals.{refusal-unchanged, wrong-length, no-image}
 use Rattle.promises.specs.ImagePromises.{ImagePromises}
 use Rattle.promises.proofs.Images.{images-demand, images-lowest}
 

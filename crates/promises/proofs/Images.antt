@@ -13,10 +13,10 @@ use Rattle.batch.specs.Histories.{callsIn, vouchersIn}
 use Rattle.image_parts.specs.Layout.{Layout, imageSize, Figured}
 use Rattle.image.specs.Writing.{Image}
 use Rattle.image.proofs.Rounds.{framed-back}
-use Rattle.c_calls.specs.CCalls.{Returned, newOver}
-use Rattle.c_calls.specs.Images.{images, lowestStored}
-use Rattle.c_calls.proofs.Demand.{demand, lowest, new-written}
-use Rattle.c_calls.proofs.Batches.{image-left, image-kept}
+use Rattle.c_over.specs.CCalls.{Returned, newOver}
+use Rattle.c_over.specs.Images.{images, lowestStored}
+use Rattle.c_over.proofs.Demand.{demand, lowest, new-written}
+use Rattle.c_over.proofs.Batches.{image-left, image-kept}
 use Rattle.promises.specs.Clients.{ClientDemand}
 use Rattle.promises.specs.Lowest.{ClientLowest}
 use Rattle.promises.specs.Images.{ImageAct, ImageNew, ImageCall, imageRenews, imageGives, imageNext, imageClient}

@@ -5,7 +5,7 @@ use Rattle.batch.proofs.Cuts.{cut, single-left, single-answer}
 use Rattle.batch.proofs.Histories.{lists-demand, lists-lowest}
 use Rattle.image_parts.specs.Layout.{current}
 use Rattle.image_parts.proofs.Lawful.{figured-current}
-use Rattle.c_calls.proofs.Batches as over-images
+use Rattle.c_over.proofs.Batches as over-images
 use Rattle.promises.specs.ListPromises.{ListPromises, ImageListPromises}
 use Rattle.promises.proofs.Images.{all-calls-demand, all-calls-lowest}
 

@@ -5,7 +5,7 @@ use Rattle.pages.proofs.Same.{page-same}
 use Rattle.pages.proofs.Demand.{demand}
 use Rattle.image_parts.specs.Layout.{current}
 use Rattle.image_parts.proofs.Lawful.{figured-current}
-use Rattle.c_calls.proofs.Pages.{pages-demand}
+use Rattle.c_over.proofs.Pages.{pages-demand}
 use Rattle.promises.specs.PagePromises.{PagePromises, PagesOverImages}
 
 pub page-promises : (n : ℕ) → n ≤ none → PagePromises n

@@ -9,9 +9,9 @@ use Rattle.calls.specs.Calls.{voucherFrom}
 use Rattle.pages.specs.Calls.{PageCall, byteCall}
 use Rattle.batch.specs.Histories.{Batch, vouchersIn}
 use Rattle.image_parts.specs.Layout.{Layout}
-use Rattle.c_calls.specs.CCalls.{callOver, pagesOver, newOver}
-use Rattle.c_calls.specs.Lists.{listOver, answersOver}
-use Rattle.c_calls.specs.Images.{images}
+use Rattle.c_over.specs.CCalls.{callOver, pagesOver, newOver}
+use Rattle.c_over.specs.Lists.{listOver, answersOver}
+use Rattle.c_over.specs.Images.{images}
 use Rattle.promises.specs.Clients.{Client}
 
 pub data AnyAct : Type 0 where

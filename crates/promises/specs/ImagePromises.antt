@@ -17,8 +17,8 @@ use Rattle.image_writing.specs.Writing.{imageOf}
 use Rattle.image.specs.Writing.{Image}
 use Rattle.image.specs.Reading.{accepted, readingOf}
 use Rattle.image_calls.specs.Lists.{Returned, returned}
-use Rattle.c_calls.specs.CCalls.{callOver, newOver}
-use Rattle.c_calls.specs.Images.{images, lowestStored}
+use Rattle.c_over.specs.CCalls.{callOver, newOver}
+use Rattle.c_over.specs.Images.{images, lowestStored}
 use Rattle.promises.specs.Clients.{ClientDemand}
 use Rattle.promises.specs.Lowest.{ClientLowest}
 use Rattle.promises.specs.Images.{imageClient}

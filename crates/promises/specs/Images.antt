@@ -6,8 +6,8 @@ use mathlib.Core.List.{List, [], _∷_}
 use Rattle.rules.specs.Rules.{Call, Voucher}
 use Rattle.calls.specs.Calls.{voucherFrom}
 use Rattle.image_parts.specs.Layout.{Layout}
-use Rattle.c_calls.specs.CCalls.{callOver, newOver}
-use Rattle.c_calls.specs.Images.{images}
+use Rattle.c_over.specs.CCalls.{callOver, newOver}
+use Rattle.c_over.specs.Images.{images}
 use Rattle.promises.specs.Clients.{Client}
 
 pub data ImageAct : Type 0 where

@@ -20,8 +20,8 @@ use Rattle.batch.specs.Histories.{Batch, Door, afterLists, vouchersOfLists, acc
 use Rattle.batch.specs.declared.Asked.the-variants.{Is}
 use Rattle.image_parts.specs.Layout.{Layout, imageSize}
 use Rattle.image_writing.specs.Writing.{imageOf}
-use Rattle.c_calls.specs.Images.{images, lowestStored}
-use Rattle.c_calls.specs.Lists.{imageDoor}
+use Rattle.c_over.specs.Images.{images, lowestStored}
+use Rattle.c_over.specs.Lists.{imageDoor}
 use Rattle.promises.specs.Clients.{ClientDemand}
 use Rattle.promises.specs.Lowest.{ClientLowest}
 use Rattle.promises.specs.AllCalls.{anyClient}

@@ -12,7 +12,7 @@ use Rattle.pages.specs.Calls.{PageCall, byteCall}
 use Rattle.pages.specs.Demand.{PageDemand}
 use Rattle.pages.specs.States.{pageMade, pagesOfStates}
 use Rattle.image_parts.specs.Layout.{Layout, imageSize}
-use Rattle.c_calls.specs.Images.{images, pagesOfImages}
+use Rattle.c_over.specs.Images.{images, pagesOfImages}
 
 pub record PagePromises (n : ℕ) : Type 0 where
   -- the lines of a page call come to one call in bytes

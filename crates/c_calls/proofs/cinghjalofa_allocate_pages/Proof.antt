@@ -2,7 +2,7 @@ use mathlib.Core.Path.{ap, _∙_}
 use lib.IntN.{ℤ}
 use mir.Syntax.{w64}
 use mir.Facts.{toZ-ofZ}
-use Rattle.c_calls.specs.CCalls.{returned}
+use Rattle.c_over.specs.CCalls.{returned}
 use borrow.Author.Needs.{needs}
 use Rattle.c_calls.proofs.cinghjalofa_allocate_pages.Statement.{statement}
 use Rattle.c_calls.proofs.cinghjalofa_allocate_pages.Tie as tie

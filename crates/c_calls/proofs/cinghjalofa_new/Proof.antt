@@ -7,7 +7,7 @@ use Rattle.rules_lowest.specs.Lowest.{never}
 use Rattle.account_state.specs.Account.{account}
 use Rattle.image_parts.specs.Layout.{current}
 use Rattle.image_writing.specs.Writing.{imageOf}
-use Rattle.c_calls.proofs.Ways.{no-room, new-done}
+use Rattle.c_over.proofs.Ways.{no-room, new-done}
 use borrow.Author.Needs.{needs}
 use Rattle.c_calls.proofs.cinghjalofa_new.Statement.{statement}
 use Rattle.c_calls.proofs.cinghjalofa_new.Tie as tie

@@ -8,9 +8,9 @@ use Rattle.image_parts.specs.Layout.{current}
 use Rattle.image_parts.proofs.Lawful.{figured-current}
 use Rattle.batch.specs.InWords.{wordsOf}
 use Rattle.calls.specs.declared.Request.the-variants.{Allocate}
-use Rattle.c_calls.specs.CCalls.{returned}
-use Rattle.c_calls.specs.Lists.{BatchOver}
-use Rattle.c_calls.proofs.Batches.{same-list, list-refused, list-served}
+use Rattle.c_over.specs.CCalls.{returned}
+use Rattle.c_over.specs.Lists.{BatchOver}
+use Rattle.c_over.proofs.Batches.{same-list, list-refused, list-served}
 use Rattle.mapper_pages.proofs.Asking.{page-call}
 use borrow.Author.Needs.{needs}
 use Rattle.mapper_pages.proofs.take_page.Statement.{statement}

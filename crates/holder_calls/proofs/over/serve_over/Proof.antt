@@ -5,7 +5,7 @@ use lib.IntN.{ℤ}
 use mir.Syntax.{w64}
 use mir.Facts.{toZ-ofZ}
 use Rattle.image_parts.specs.Layout.{current}
-use Rattle.c_calls.specs.CCalls.{returned}
+use Rattle.c_over.specs.CCalls.{returned}
 use Rattle.holder_image.specs.Bytes.{memoryIn, headed}
 use Rattle.holder_serve.specs.Made.{requested}
 use Rattle.holder_calls.specs.Calls.{soundIn}

@@ -6,8 +6,8 @@ use mir.Facts.{toZ-ofZ}
 use Rattle.calls.specs.declared.Request.{Request}
 use Rattle.calls.specs.Calls.{callOf}
 use Rattle.image_parts.specs.Layout.{current}
-use Rattle.c_calls.specs.CCalls.{returned}
-use Rattle.c_calls.specs.Images.{images}
+use Rattle.c_over.specs.CCalls.{returned}
+use Rattle.c_over.specs.Images.{images}
 use Rattle.holder_rules.specs.Holders.{asked}
 use Rattle.holder_image.specs.Bytes.{holdingIn}
 use Rattle.holder_serve.proofs.Ladders.{zero-unknown, past-unknown, is-known}

@@ -4,8 +4,8 @@ use lib.IntN.{ℤ}
 use mir.Syntax.{w64}
 use mir.Facts.{toZ-ofZ}
 use Rattle.image_parts.specs.Layout.{current}
-use Rattle.c_calls.specs.CCalls.{returned}
-use Rattle.c_calls.specs.Images.{images}
+use Rattle.c_over.specs.CCalls.{returned}
+use Rattle.c_over.specs.Images.{images}
 use Rattle.holder_rules.specs.Holders.{step}
 use Rattle.holder_image.specs.Bytes.{holdingIn}
 use Rattle.holder_serve.specs.Made.{requested}

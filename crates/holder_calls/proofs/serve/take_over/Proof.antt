@@ -4,7 +4,7 @@ use mir.Syntax.{w64}
 use mir.Val.{toZ, ofZ}
 use mir.Facts.{toZ-ofZ}
 use Rattle.image_parts.specs.Layout.{current}
-use Rattle.c_calls.specs.CCalls.{returned, callOver}
+use Rattle.c_over.specs.CCalls.{returned, callOver}
 use Rattle.holder_image.specs.Bytes.{memoryIn}
 use Prim.Native.Nat.{ℕ}
 use native.Mathlib.Omega.{arith}

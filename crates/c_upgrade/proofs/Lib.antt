@@ -1,2 +1,0 @@
--- What an upgrade returns.
-pub mod Upgrade
