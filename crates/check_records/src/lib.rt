@@ -18,7 +18,7 @@ pub enum Tally {
 }
 
 // A range of one byte or more, below TOP.
-fn is_proper(start: Address, end: Address) -> bool
+pub fn is_proper(start: Address, end: Address) -> bool
     ensures { λ r. ⌜ r ≡ proper (start .0) (end .0) ⌝ }
 {
     if end.0 < start.0 {

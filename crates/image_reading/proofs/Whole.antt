@@ -8,10 +8,10 @@ use native.Mathlib.Nat.{mul-add, mul-one, mul-le-mul-left}
 use native.Mathlib.Omega.{arith}
 use lib.Dec.{eqb}
 use lib.ListN.{length, getD, replicate}
-use borrow.Author.Tests.{eq-eqb, ne-eqb, eqb-true, le-leb}
+use borrow.Author.Tests.{eq-eqb, ne-eqb, eqb-true, le-leb, lt-ltb}
 use Rattle.linked_lists.specs.Links.{none}
 use Rattle.linked_lists.proofs.Laws.{same?, true≢false, length-tab}
-use Rattle.rules.specs.Rules.{sizeLists, empty}
+use Rattle.rules.specs.Rules.{sizeLists, empty, top}
 use Rattle.pool_state.specs.declared.MemoryAllocator.{MemoryAllocator}
 use Rattle.pool_state.specs.State.{arrays, stateOf}
 use Rattle.pool_state.proofs.States.{at-tab, fresh-state}
@@ -27,7 +27,8 @@ use Rattle.image_parts.proofs.Loops.{both, bit-at}
 use Rattle.image_parts.proofs.Parts.{record-room}
 use Rattle.image_parts.proofs.Places.{part-below}
 use Rattle.image_reading.specs.Reading.{stateIn, framed, holdsRanges, headed, grownRanges}
-use Rattle.image_records.specs.Records.{linkNumberIn, linkIn, freshAt, flagAt, plainAt, plain, RecordsIn}
+use Rattle.check_records.specs.Records.{proper}
+use Rattle.image_records.specs.Records.{linkNumberIn, linkIn, freshAt, flagAt, usedAt, plainAt, plain, RecordsIn}
 use Rattle.image_records.proofs.Decoding.{number-here, start-here, flag-here, link-here, plain-unused, plain-used}
 
 pub state-sized : (f : Layout) (l : List ℕ) → Sized (f .records) (stateIn f l)
@@ -88,6 +89,10 @@ state-grows m f l total first heads start end enabled previous next lprev lnext 
       lnexts = filled-by _ _ m n _ _ lnext (λ j b. sym (at-tab 0 n _ j b)) (r .lnexts);
     }
 
+proper-true : (s e : ℕ) → s ≤ e → e < top → proper s e ≡ true
+unfolding proper
+proper-true s e a b = rw (le-leb s e a, lt-ltb e top b)
+
 regroup : (a b c d : Bool) → (a && (b && (c && d))) ≡ ((a && (b && c)) && d)
 regroup true true c d = refl
 regroup true false c d = refl
@@ -114,7 +119,7 @@ module _ (f : Layout) (l : List ℕ) where
   -- ---- records that are in use or fresh
 
   flag-small : (a : ℕ) → plainAt f l a ≡ true → flagAt l a ≤ 1
-  flag-small a h = ⊎-elim (λ (e : flagAt l a ≡ 0). omega arith) (λ e. let k : flagAt l a ≡ 1 = eqb-true _ _ (rw (ne-eqb (flagAt l a) 0 e) at h) in omega arith) (same? (flagAt l a) 0)
+  flag-small a h = ⊎-elim (λ (e : flagAt l a ≡ 0). omega arith) (λ e. let k : flagAt l a ≡ 1 = eqb-true _ _ (both (eqb (flagAt l a) 1) _ (rw (ne-eqb (flagAt l a) 0 e) at h) .0) in omega arith) (same? (flagAt l a) 0)
 
   plain-bits : (m i : ℕ) → plain f l m i ≡ true → bits l (recordsAt f + enabledAt) (recordSize f) m i ≡ true
   unfolding plain bits
@@ -178,8 +183,18 @@ module _ (f : Layout) (l : List ℕ) where
           let e₆ = none-number 3 (omega arith) (link-here f l i 3 ∙ sym (at-tab 0 n _ i b) ∙ s .list-next) in
           rw (eq-eqb _ 0 e₁, eq-eqb _ 0 e₂, eq-eqb _ (noLink f) e₃, eq-eqb _ (noLink f) e₄, eq-eqb _ (noLink f) e₅, eq-eqb _ (noLink f) e₆)
 
+      used-bytes : flagAt l here ≡ 1 → usedAt l here ≡ true
+      unfolding stateIn numbersIn flagsIn
+      used-bytes on =
+          let p = sound .proper i b (at-tab false n _ i b ∙ ap (λ (x : ℕ). eqb x 1) (sym (flag-here f l i) ∙ on)) in
+          let first : numberIn l here word ≡ getD (stateIn f l .start) i 0 = start-here f l i ∙ sym (at-tab 0 n _ i b) in
+          let last : numberIn l (here + endAt) word ≡ getD (stateIn f l .end) i 0 = number-here f l i endAt ∙ sym (at-tab 0 n _ i b) in
+          let low = p .0 in
+          let high = p .1 in
+          rw (eq-eqb (flagAt l here) 1 on) (proper-true _ _ (omega arith) (omega arith))
+
       each-plain : true ≡ plainAt f l here
-      each-plain = ⊎-elim (λ (e : flagAt l here ≡ 0). plain-unused f l here true e (sym (fresh-bytes e))) (λ e. plain-used f l here (let s = flag-bit in omega arith)) (same? (flagAt l here) 0)
+      each-plain = ⊎-elim (λ (e : flagAt l here ≡ 0). plain-unused f l here true e (sym (fresh-bytes e))) (λ e. plain-used f l here true e (sym (used-bytes (let s = flag-bit in omega arith)))) (same? (flagAt l here) 0)
 
     ranges-plain : holdsRanges f l ≡ true → plain f l n 0 ≡ true
     unfolding plain

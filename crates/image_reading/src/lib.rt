@@ -1,7 +1,8 @@
 // An image of any layout, read into lent fields: the ranges, and the lowest figure beside them.
 use account_state::is_low_sound;
 use bytes_be::read_be;
-use check_state::is_sound_in;
+use check_records::Tally;
+use check_state::links_ok;
 use image_parts::layout::FIRST;
 use image_parts::layout::LENGTH;
 use image_parts::layout::Layout;
@@ -74,7 +75,7 @@ fn read_ranges(
     ensures { λ r. ⌜ ReadsTen pool form image r total first heads start end enabled previous next lprev lnext ⌝ }
 {
     if is_headed(image, form) {
-        if read_records(
+        let tally = read_records(
             image,
             form,
             start,
@@ -84,25 +85,27 @@ fn read_ranges(
             next,
             lprev,
             lnext,
-        ) {
-            *total = word_in(image, TOTAL);
-            *first = link_in(image, form, FIRST, 0);
-            let at = FIRST + form.link;
-            read_links(image, form, at, heads);
-            return is_sound_in(
-                *total,
-                RecordIndex(*first),
-                heads,
-                start,
-                end,
-                enabled,
-                previous,
-                next,
-                lprev,
-                lnext,
-            );
-        }
-        return false;
+        );
+        let Tally::Of(count) = tally else {
+            return false;
+        };
+        *total = word_in(image, TOTAL);
+        *first = link_in(image, form, FIRST, 0);
+        let at = FIRST + form.link;
+        read_links(image, form, at, heads);
+        return links_ok(
+            *total,
+            RecordIndex(*first),
+            heads,
+            start,
+            end,
+            enabled,
+            previous,
+            next,
+            lprev,
+            lnext,
+            count,
+        );
     }
     false
 }

@@ -1,6 +1,6 @@
 -- The loop over the records: what holds when i of them are read. Assumes nothing.
 use mathlib.Core.Path.{_≡_, refl, sym, _∙_, ap, subst}
-use mathlib.Core.Bool.{Bool, true, false}
+use mathlib.Core.Bool.{Bool, true, false, _&&_}
 use mathlib.Core.List.{List}
 use mathlib.Core.Logic.{⊎-elim}
 use Prim.Native.Nat.{ℕ, suc, _+_, _-_, _*_, _≤_, _<_}
@@ -17,7 +17,8 @@ use Rattle.image_parts.specs.Layout.{Layout, word, noLink, recordsAt, endAt, en
 use Rattle.image_parts.specs.Read.{numberIn, linkOf}
 use Rattle.image_parts.proofs.Loops.{both}
 use Rattle.image_parts.specs.declared.records.MemoryEntry.{MemoryEntry}
-use Rattle.image_records.specs.Records.{linkNumberIn, linkIn, entryIn, freshAt, flagAt, plainAt, plain, Filled, numberOf, flagOf, linkFieldOf, RecordsIn}
+use Rattle.check_records.specs.Records.{proper}
+use Rattle.image_records.specs.Records.{linkNumberIn, linkIn, entryIn, freshAt, flagAt, usedAt, plainAt, plain, Filled, numberOf, flagOf, linkFieldOf, RecordsIn}
 
 -- ---- one array
 
@@ -130,11 +131,15 @@ module _ (f : Layout) (l : List ℕ) where
     pub plain-unused : (r : Bool) → flagAt l a ≡ 0 → r ≡ freshAt f l a → r ≡ plainAt f l a
     plain-unused r off e = rw (eq-eqb (flagAt l a) 0 off) e
 
-    pub plain-used : flagAt l a ≡ 1 → true ≡ plainAt f l a
-    plain-used on = rw (ne-eqb (flagAt l a) 0 (λ e. omega arith), eq-eqb (flagAt l a) 1 on)
+    pub plain-used : (r : Bool) → (flagAt l a ≡ 0 → ⊥) → r ≡ usedAt l a → r ≡ plainAt f l a
+    plain-used r some e = rw (ne-eqb (flagAt l a) 0 some) e
 
-    pub plain-neither : (flagAt l a ≡ 0 → ⊥) → (flagAt l a ≡ 1 → ⊥) → false ≡ plainAt f l a
-    plain-neither h k = rw (ne-eqb (flagAt l a) 0 h, ne-eqb (flagAt l a) 1 k)
+  -- as it is tested of a record that was decoded
+  pub used-told : (a b : ℕ) (e : MemoryEntry) (r : Bool) → r ≡ (eqb (flagAt l a) 1 && proper (e .start .0) (e .end .0)) → e ≡ entryIn f l a → a ≡ b → r ≡ usedAt l b
+  used-told a b e r h is here = h ∙ ap (λ (x : MemoryEntry). eqb (flagAt l a) 1 && proper (x .start .0) (x .end .0)) is ∙ ap (λ (k : ℕ). usedAt l k) here
+
+  pub used-proper : (a : ℕ) (e : MemoryEntry) (r : Bool) → r ≡ (eqb (flagAt l a) 1 && proper (e .start .0) (e .end .0)) → r ≡ true → proper (e .start .0) (e .end .0) ≡ true
+  used-proper a e r h on = both (eqb (flagAt l a) 1) _ (sym h ∙ on) .1
 
   module _ (n i : ℕ) (b : i < n) where
     pub plain-next : true ≡ plainAt f l (recordAt f i) → plain f l (n - (i + 1)) (i + 1) ≡ plain f l (n - i) i

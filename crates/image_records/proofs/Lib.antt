@@ -2,3 +2,4 @@
 pub mod Rooms
 pub mod Tests
 pub mod Decoding
+pub mod Tallied

@@ -1,4 +1,4 @@
--- The records in a list of bytes, one by one: decoded where they are in use, compared with the fresh one where they are not. Assumes nothing.
+-- The records in a list of bytes, one by one: decoded and counted where they are in use, compared with the fresh one where they are not. Assumes nothing.
 use Prim.Native.Nat.{ℕ, zero, suc, _+_, _*_, _<_, _≤_}
 use mathlib.Core.Bool.{Bool, true, false, cond, _&&_}
 use mathlib.Core.List.{List}
@@ -8,6 +8,9 @@ use lib.Dec.{eqb}
 use lib.ListN.{length, getD, replicate}
 use Rattle.linked_lists.specs.Links.{none}
 use Rattle.pool_state.specs.Lent.{Lent, was, is}
+use Rattle.check_records.specs.Records.{proper, records}
+use Rattle.check_records.specs.declared.Tally.{Tally}
+use Rattle.check_records.specs.declared.Tally.the-variants.{Of, Broken}
 use Rattle.image_parts.specs.Layout.{Layout, word, noLink, recordsAt, endAt, enabledAt, linksAt, recordSize, recordAt}
 use Rattle.image_parts.specs.Read.{numberIn, linkOf}
 use Rattle.image_parts.specs.declared.records.MemoryEntry.{MemoryEntry}
@@ -45,9 +48,13 @@ freshAt f l a = eqb (numberIn l a word) 0 && (eqb (numberIn l (a + endAt) word) 
 abbrev pub flagAt : List ℕ → ℕ → ℕ
 flagAt l a = getD l (a + enabledAt) 0
 
--- in use, or fresh
+-- the record from a on is in use, and holds a proper range
+abbrev pub usedAt : List ℕ → ℕ → Bool
+usedAt l a = eqb (flagAt l a) 1 && proper (numberIn l a word) (numberIn l (a + endAt) word)
+
+-- so it is, or it is fresh
 abbrev pub plainAt : Layout → List ℕ → ℕ → Bool
-plainAt f l a = cond (eqb (flagAt l a) 0) (freshAt f l a) (eqb (flagAt l a) 1)
+plainAt f l a = cond (eqb (flagAt l a) 0) (freshAt f l a) (usedAt l a)
 
 -- so are n records from the i-th on
 unfoldable pub plain : Layout → List ℕ → ℕ → ℕ → Bool
@@ -92,7 +99,9 @@ pub record FreshRecords (n : ℕ) (start end : RefT (List ℕ)) (enabled : RefT 
   pub lprevs : now lprev ≡ replicate n none
   pub lnexts : now lnext ≡ replicate n none
 
--- r tells whether every record of the layout is in use or fresh; where they are, the arrays of m become those in the bytes, filled up
-pub record ReadsRecords (m : ℕ) (f : Layout) (image : Lent (List ℕ)) (r : Bool) (start end : Lent (List ℕ)) (enabled : Lent (List Bool)) (previous next lprev lnext : Lent (List ℕ)) : Type 0 where
-  pub told : r ≡ plain f (was image) (f .records) 0
-  pub read : r ≡ true → RecordsIn m (f .records) f (was image) (is start) (is end) (is enabled) (is previous) (is next) (is lprev) (is lnext)
+-- r is broken where a record of the layout is neither used nor fresh; else the arrays of m become those in the bytes, filled up, and r counts those in use
+pub record ReadsRecords (m : ℕ) (f : Layout) (image : Lent (List ℕ)) (r : Tally) (start end : Lent (List ℕ)) (enabled : Lent (List Bool)) (previous next lprev lnext : Lent (List ℕ)) : Type 0 where
+  pub broken : r ≡ Broken → plain f (was image) (f .records) 0 ≡ false
+  pub plainly : (c : ℕ) → r ≡ Of c → plain f (was image) (f .records) 0 ≡ true
+  pub read : (c : ℕ) → r ≡ Of c → RecordsIn m (f .records) f (was image) (is start) (is end) (is enabled) (is previous) (is next) (is lprev) (is lnext)
+  pub counted : (c : ℕ) → r ≡ Of c → records m (is start) (is end) (is enabled) (is previous) (is next) (is lprev) (is lnext) ≡ Of c

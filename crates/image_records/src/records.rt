@@ -1,7 +1,9 @@
-// The records of an image, over any layout: one in use is decoded, an unused one compared with the fresh one.
+// The records of an image, over any layout: one in use is decoded and counted, an unused one compared with the fresh one.
 use crate::numbers::link_in;
 use crate::numbers::link_number_in;
 use crate::numbers::word_in;
+use check_records::Tally;
+use check_records::is_proper;
 use image_parts::layout::ENABLED;
 use image_parts::layout::END;
 use image_parts::layout::LINKS;
@@ -13,9 +15,12 @@ use image_parts::records::MemoryEntry;
 use pool_state::Address;
 use pool_state::POOL;
 use pool_state::RecordIndex;
+ghost use mathlib.Core.Bool.{_&&_};
 ghost use mathlib.Core.Path.{_≡_};
 ghost use Prim.Native.Nat.{_+_, _*_, _≤_};
+ghost use lib.Dec.{eqb};
 ghost use lib.ListN.{length};
+ghost use Rattle.check_records.specs.Records.{proper};
 ghost use Rattle.image_parts.specs.Layout.{Lawful, Housed, imageSize, recordSize};
 ghost use Rattle.pool_state.specs.Lent.{was};
 ghost use Rattle.pool_state.specs.Shown.{pool};
@@ -71,7 +76,18 @@ fn record_in(image: &[u8], form: Layout, at: usize) -> MemoryEntry
     }
 }
 
-// The records, into arrays that are fresh: an unused one is left as it is, and so are the places past those that the layout has.
+// Whether a record with this enabled byte is in use, and holds a proper range.
+fn is_used(flag: u8, e: MemoryEntry) -> bool
+    ensures { λ r. ⌜ r ≡ (eqb flag 1 && proper (e .start .0) (e .end .0)) ⌝ }
+{
+    if flag == 1 {
+        return is_proper(e.start, e.end);
+    }
+    false
+}
+
+// The records, into arrays that are fresh: an unused one is left as it is, and so are the places past those that the layout has. Those in use are
+// counted on the way, so that the check of the state need not go through the records again.
 pub fn read_records(
     image: &[u8],
     form: Layout,
@@ -82,7 +98,7 @@ pub fn read_records(
     next: &mut [u16; POOL],
     lprev: &mut [u16; POOL],
     lnext: &mut [u16; POOL],
-) -> bool
+) -> Tally
     requires { ⌜ Housed form ⌝ }
     requires { ⌜ length (now image) ≡ imageSize form ⌝ }
     requires { ⌜ FreshRecords pool start end enabled previous next lprev lnext ⌝ }
@@ -91,6 +107,7 @@ pub fn read_records(
     let from = records_at(form);
     let size = record_size(form);
     let count = form.records;
+    let mut used: usize = 0;
     for i in 0..count {
         let at = from + size * i;
         let flag = image[at + ENABLED];
@@ -98,19 +115,21 @@ pub fn read_records(
             if is_fresh(image, form, at) {
                 continue;
             }
-            return false;
-        }
-        if flag != 1 {
-            return false;
+            return Tally::Broken;
         }
         let e = record_in(image, form, at);
-        start[i] = e.start.0;
-        end[i] = e.end.0;
-        enabled[i] = true;
-        previous[i] = e.previous.0;
-        next[i] = e.next.0;
-        lprev[i] = e.list_prev.0;
-        lnext[i] = e.list_next.0;
+        if is_used(flag, e) {
+            start[i] = e.start.0;
+            end[i] = e.end.0;
+            enabled[i] = true;
+            previous[i] = e.previous.0;
+            next[i] = e.next.0;
+            lprev[i] = e.list_prev.0;
+            lnext[i] = e.list_next.0;
+            used += 1;
+            continue;
+        }
+        return Tally::Broken;
     }
-    true
+    Tally::Of(used)
 }

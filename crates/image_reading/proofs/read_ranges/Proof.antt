@@ -42,20 +42,37 @@ read-records-requires c κs =
       ),
     )
 
+enum-known-tally : tie.Need-enum-known-tally
+enum-known-tally c = search needs
+
+enum-told : tie.Need-enum-told
+enum-told c = search needs
+
+returns : tie.Need-returns
+returns c =
+    let read = c .before .before in
+    let headed = read .before .before .before .before .before .before .before .before in
+    let known = headed .before .before in
+    let start = known .before in
+    record {
+      told = not-plain (start .args .form) _ (start .pre .0 .lawful) (λ i b. known .shared-slice-known .given i .fits) (read .read-records .ensures .broken (c .enum-told .given .1));
+      ranges = λ e. true≢false (sym e);
+    }
+
 word-in-requires : tie.Need-word-in-requires
 word-in-requires c κs =
-    let headed = c .before .before .before .before .before .before .before .before .before in
+    let headed = c .before .before .before .before .before .before .before .before .before .before .before in
     omega (arith, sized headed)
 
 link-in-requires : tie.Need-link-in-requires
 link-in-requires c κs =
-    let headed = c .before .before .before .before .before .before .before .before .before .before in
+    let headed = c .before .before .before .before .before .before .before .before .before .before .before .before in
     let start = headed .before .before .before in
     (start .pre .0 .lawful, omega (arith, sized headed))
 
 add-at : tie.Need-add-at
 add-at c =
-    let headed = c .before .before .before .before .before .before .before .before .before .before .before .before in
+    let headed = c .before .before .before .before .before .before .before .before .before .before .before .before .before .before in
     let start = headed .before .before .before in
     omega (arith, narrow (start .args .form) (start .pre .0 .lawful))
 
@@ -69,46 +86,39 @@ spaced a w n m room i b = let p : w * (i + 1) ≤ w * n = mul-le-mul-left w (ome
 
 read-links-requires : tie.Need-read-links-requires
 read-links-requires c κs =
-    let headed = c .before .before .before .before .before .before .before .before .before .before .before .before .before in
+    let headed = c .before .before .before .before .before .before .before .before .before .before .before .before .before .before .before in
     let start = headed .before .before .before in
     let f = start .args .form in
     let count = ap length (emptied pool _ (start .pre .1) .heads) in
     let room = ap (λ (n : ℕ). headsAt f + f .link * n) count in
     (start .pre .0 .lawful, spaced _ _ _ _ (omega (arith, sized headed)))
 
-is-sound-in-requires : tie.Need-is-sound-in-requires
-is-sound-in-requires c κs = search needs
+links-ok-requires : tie.Need-links-ok-requires
+links-ok-requires c κs =
+    let listed = c .before .before .before .before .before .before .before .before .before .before in
+    let taken = listed .before .before .before .before .before .before in
+    taken .before .before .read-records .ensures .counted _ (taken .tally .given .1)
 
-returns : tie.Need-returns
-returns c =
+returns-2 : tie.Need-returns-2
+returns-2 c =
     let listed = c .before .before .before .before .before .before .before .before .before .before .before in
     let led = listed .before .before .before in
     let counted = led .before in
-    let taken = counted .before in
-    let read = taken .before in
+    let taken = counted .before .before in
+    let read = taken .before .before in
     let headed = read .before .before .before .before .before .before .before .before in
     let start = headed .before .before .before in
     let f = start .args .form in
     let l = start .args .image .now in
     let count = ap length (emptied pool _ (start .pre .1) .heads) in
     let told = read .read-records .ensures in
+    let of = taken .tally .given .1 in
     let e₃ = listed .read-links .ensures ∙ ap (λ (m : ℕ). linksIn f l (headsAt f) (f .link) m) count in
-    let same = state-grows pool f l _ _ _ _ _ _ _ _ _ _ (counted .word-in .ensures) (led .link-in .ensures ∙ first-link f l) e₃ (told .read (taken .if2 .taken)) in
-    let decided = check-decides f l pool (start .pre .0 .room) (omega arith) _ same (sym (headed .before .is-headed .ensures) ∙ headed .if1 .taken) (sym (told .told) ∙ taken .if2 .taken) _ (c .is-sound-in .ensures) in
+    let same = state-grows pool f l _ _ _ _ _ _ _ _ _ _ (counted .word-in .ensures) (led .link-in .ensures ∙ first-link f l) e₃ (told .read _ of) in
+    let decided = check-decides f l pool (start .pre .0 .room) (omega arith) _ same (sym (headed .before .is-headed .ensures) ∙ headed .if1 .taken) (told .plainly _ of) _ (c .links-ok .ensures) in
     record {
       told = decided;
       ranges = λ e. checked-state f l pool (start .pre .0 .room) (omega arith) _ same (sym decided ∙ e);
-    }
-
-returns-2 : tie.Need-returns-2
-returns-2 c =
-    let read = c .before in
-    let headed = read .before .before .before .before .before .before .before .before in
-    let known = headed .before .before in
-    let start = known .before in
-    record {
-      told = not-plain (start .args .form) _ (start .pre .0 .lawful) (λ i b. known .shared-slice-known .given i .fits) (sym (read .read-records .ensures .told) ∙ c .if2 .left);
-      ranges = λ e. true≢false (sym e);
     }
 
 returns-3 : tie.Need-returns-3
@@ -120,11 +130,13 @@ read-ranges-spec =
     (tie.spec
     is-headed-requires
     read-records-requires
+    enum-known-tally
+    enum-told
+    returns
     word-in-requires
     link-in-requires
     add-at
     read-links-requires
-    is-sound-in-requires
-    returns
+    links-ok-requires
     returns-2
     returns-3)
