@@ -2,6 +2,11 @@
 // types, the calls, the check of a state, its lists and its totals.
 use calls::Request;
 pub use holder_check::is_sound;
+pub use holder_lists::Whose;
+pub use holder_lists::held;
+pub use holder_lists::listing;
+pub use holder_lists::total;
+pub use holder_ranges::holdings;
 pub use holder_rules::ENTRIES;
 pub use holder_rules::Entry;
 pub use holder_rules::HOLDERS;
