@@ -87,16 +87,24 @@ fn store(
 {
     let memory = state.memory;
     let register = state.register;
+    let free_list = memory.free_list;
+    let starts = memory.start;
+    let ends = memory.end;
+    let used = memory.enabled;
+    let before = memory.previous;
+    let after = memory.next;
+    let list_before = memory.list_prev;
+    let list_after = memory.list_next;
     *total = memory.free_size;
     *first = memory.first_entry.0;
-    *heads = memory.free_list;
-    *start = memory.start;
-    *end = memory.end;
-    *enabled = memory.enabled;
-    *previous = memory.previous;
-    *next = memory.next;
-    *lprev = memory.list_prev;
-    *lnext = memory.list_next;
+    *heads = free_list;
+    *start = starts;
+    *end = ends;
+    *enabled = used;
+    *previous = before;
+    *next = after;
+    *lprev = list_before;
+    *lnext = list_after;
     *words = words_of(register);
 }
 

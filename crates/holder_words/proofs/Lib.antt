@@ -1,2 +1,3 @@
 -- Laws of a register in words.
 mod Storing
+pub mod Fresh

@@ -6,7 +6,7 @@ use Prim.Native.Nat.{ℕ, _≤_}
 use native.Mathlib.Omega.{arith}
 use lib.ListN.{length, take}
 use lib.Seq.{length-take-le}
-use Rattle.pool_state.specs.declared.MemoryAllocator.{MemoryAllocator}
+use Rattle.script_forms.specs.Forms.{Desk}
 use Rattle.script_chunks.specs.Input.{Hears, Closes}
 use Rattle.script_chunks.specs.declared.Reading.{Reading}
 use Rattle.streams.specs.Streams.{Writes}
@@ -21,7 +21,7 @@ handed-by r k e w out h v =
     let size = length-take-le (r .at) out h in
     record { reading = refl; hands = record { whole = λ f. v .whole f ∙ size; part = λ f. (let p = v .part f in omega arith) }; count = refl; ended = refl }
 
-module _ (n : ℕ) (m : MemoryAllocator) (s : Session) (carry out : List ℕ) (m′ : MemoryAllocator) (s′ : Session) (out′ : List ℕ) where
+module _ (n : ℕ) (m : Desk) (s : Session) (carry out : List ℕ) (m′ : Desk) (s′ : Session) (out′ : List ℕ) where
   pub closed-by : (r : Reading) (at : ℕ) → r ≡ fresh (s .reading) 0 → Closes n m r carry out m′ at out′
       → Handed (record { held = 0; from = 0; at = at }) 0 true s′ → Closed n m s carry out m′ s′ out′
   closed-by r at e w h =

@@ -7,10 +7,7 @@ use Prim.Native.Nat.{ℕ, suc, _+_, _-_, _<_, _≤_}
 use native.Mathlib.Omega.{arith}
 use lib.ListN.{length}
 use Rattle.linked_lists.specs.Links.{none}
-use Rattle.rules.specs.Rules.{Book, empty}
-use Rattle.pool_state.specs.State.{stateOf, Holds}
-use Rattle.pool_state.specs.declared.MemoryAllocator.{MemoryAllocator}
-use Rattle.pool_state.proofs.Book.{sound-holds}
+use Rattle.script_forms.specs.Forms.{Desk, openDesk, SoundDesk}
 use Rattle.script_answers.specs.Script.{room}
 use Rattle.script_chunks.specs.Input.{kept}
 use Rattle.script_sessions.specs.Sessions.{begin, goesOn, Prepared, Turned, Run, starts, turns}
@@ -20,7 +17,7 @@ use Rattle.script_sessions.proofs.Books.{run-sound}
 use Rattle.script.specs.Program.{enough, Over}
 
 -- so many turns are taken, and so many may follow
-pub record Going (n : ℕ) (carry₀ chunk₀ out₀ : List ℕ) (m : MemoryAllocator) (s : Session) (carry chunk out : List ℕ) (more : ℕ) : Type 0 where
+pub record Going (n : ℕ) (carry₀ chunk₀ out₀ : List ℕ) (m : Desk) (s : Session) (carry chunk out : List ℕ) (more : ℕ) : Type 0 where
   pub taken : ℕ
   pub read : List ℕ
   pub handed : List ℕ
@@ -32,7 +29,7 @@ pub record Going (n : ℕ) (carry₀ chunk₀ out₀ : List ℕ) (m : MemoryAllo
   pub out-size : length out ≡ length out₀
 
 module _ (n : ℕ) (carry₀ chunk₀ out₀ : List ℕ) where
-  pub going-none : (m : MemoryAllocator) (s : Session) → m ≡ stateOf n empty → s ≡ begin → kept ≤ length carry₀ → room n ≤ length out₀ → Going n carry₀ chunk₀ out₀ m s carry₀ chunk₀ out₀ enough
+  pub going-none : (m : Desk) (s : Session) → m ≡ openDesk n → s ≡ begin → kept ≤ length carry₀ → room n ≤ length out₀ → Going n carry₀ chunk₀ out₀ m s carry₀ chunk₀ out₀ enough
   going-none m s i e h k =
       rw (i, e) (record {
         taken = 0;
@@ -46,12 +43,12 @@ module _ (n : ℕ) (carry₀ chunk₀ out₀ : List ℕ) where
         out-size = refl;
       })
 
-  module _ (m : MemoryAllocator) (s : Session) (carry chunk out : List ℕ) (more : ℕ) (g : Going n carry₀ chunk₀ out₀ m s carry chunk out more) where
-    -- where a turn follows, the state holds a book
-    pub going-holds : n ≤ none → goesOn s ≡ true → (b : Book) × Holds n b m
-    going-holds small on = (_, sound-holds n m (run-sound n small (g .taken) (g .read) (g .handed) m s carry chunk out (g .run) on))
+  module _ (m : Desk) (s : Session) (carry chunk out : List ℕ) (more : ℕ) (g : Going n carry₀ chunk₀ out₀ m s carry chunk out more) where
+    -- where a turn follows, the state is sound
+    pub going-sound : n ≤ none → goesOn s ≡ true → SoundDesk n m
+    going-sound small on = run-sound n small (g .taken) (g .read) (g .handed) m s carry chunk out (g .run) on
 
-    pub going-on : (m′ : MemoryAllocator) (s′ : Session) (carry′ chunk′ out′ : List ℕ) → goesOn s ≡ true → 0 < more
+    pub going-on : (m′ : Desk) (s′ : Session) (carry′ chunk′ out′ : List ℕ) → goesOn s ≡ true → 0 < more
         → length carry′ ≡ length carry → length chunk′ ≡ length chunk → length out′ ≡ length out → Turned n m s carry chunk out m′ s′ carry′ chunk′ out′
         → Going n carry₀ chunk₀ out₀ m′ s′ carry′ chunk′ out′ (more - 1)
     going-on m′ s′ carry′ chunk′ out′ on h c d e w =

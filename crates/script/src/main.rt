@@ -1,4 +1,5 @@
 // The script program: calls from standard input, one a line, and their answers to standard output.
+use holder_words::WORDS;
 use libc::STDIN_FILENO;
 use libc::STDOUT_FILENO;
 use pool_state::LISTS;
@@ -6,6 +7,7 @@ use pool_state::NONE;
 use pool_state::POOL;
 use script_chunks::Reading;
 use script_chunks::answer_last;
+use script_forms::OPEN;
 use script_sessions::Session;
 use script_sessions::afresh;
 use script_sessions::answer_part;
@@ -17,7 +19,8 @@ use streams::write_all;
 ghost use Prim.Native.Nat.{_<_, _≤_};
 ghost use lib.ListN.{length};
 ghost use Rattle.pool_state.specs.Shown.{pool};
-ghost use Rattle.pool_state.specs.Lent.{is, HoldsSome};
+ghost use Rattle.pool_state.specs.Lent.{is};
+ghost use Rattle.script_forms.specs.Forms.{SoundIn};
 ghost use Rattle.script_answers.specs.Script.{room};
 ghost use Rattle.script_chunks.specs.Input.{kept, Ready};
 ghost use Rattle.script_sessions.specs.Sessions.{fresh, Prepared};
@@ -58,14 +61,16 @@ fn answer_more(
     next: &mut [u16; POOL],
     lprev: &mut [u16; POOL],
     lnext: &mut [u16; POOL],
+    forms: &mut u8,
+    words: &mut [u64; WORDS],
     s: Session,
     carry: &mut [u8],
     chunk: &[u8],
     out: &mut [u8],
 ) -> Session
-    requires { ⌜ HoldsSome pool total first heads start end enabled previous next lprev lnext ⌝ }
+    requires { ⌜ SoundIn pool forms words total first heads start end enabled previous next lprev lnext ⌝ }
     requires { ⌜ Prepared pool s (now carry) (now chunk) (now out) × (s .reading .from < s .count) ⌝ }
-    ensures { λ s′. ⌜ AnsweredIn pool s carry chunk out s′ total first heads start end enabled previous next lprev lnext ⌝ }
+    ensures { λ s′. ⌜ AnsweredIn pool s carry chunk out s′ forms words total first heads start end enabled previous next lprev lnext ⌝ }
 {
     let reading = s.reading;
     let count = s.count;
@@ -81,6 +86,8 @@ fn answer_more(
         next,
         lprev,
         lnext,
+        forms,
+        words,
         r,
         carry,
         &chunk[..count],
@@ -101,13 +108,15 @@ fn close(
     next: &mut [u16; POOL],
     lprev: &mut [u16; POOL],
     lnext: &mut [u16; POOL],
+    forms: &mut u8,
+    words: &mut [u64; WORDS],
     s: Session,
     carry: &[u8],
     out: &mut [u8],
 ) -> Session
-    requires { ⌜ HoldsSome pool total first heads start end enabled previous next lprev lnext ⌝ }
+    requires { ⌜ SoundIn pool forms words total first heads start end enabled previous next lprev lnext ⌝ }
     requires { ⌜ Ready pool (fresh (s .reading) 0) (now carry) (now out) ⌝ }
-    ensures { λ s′. ⌜ ClosedIn pool s carry out s′ total first heads start end enabled previous next lprev lnext ⌝ }
+    ensures { λ s′. ⌜ ClosedIn pool s carry out s′ forms words total first heads start end enabled previous next lprev lnext ⌝ }
 {
     let reading = s.reading;
     let r = afresh(reading, 0);
@@ -122,6 +131,8 @@ fn close(
         next,
         lprev,
         lnext,
+        forms,
+        words,
         r,
         carry,
         out,
@@ -146,14 +157,16 @@ fn turn(
     next: &mut [u16; POOL],
     lprev: &mut [u16; POOL],
     lnext: &mut [u16; POOL],
+    forms: &mut u8,
+    words: &mut [u64; WORDS],
     s: Session,
     carry: &mut [u8],
     chunk: &mut [u8],
     out: &mut [u8],
 ) -> Session
-    requires { ⌜ HoldsSome pool total first heads start end enabled previous next lprev lnext ⌝ }
+    requires { ⌜ SoundIn pool forms words total first heads start end enabled previous next lprev lnext ⌝ }
     requires { ⌜ Prepared pool s (now carry) (now chunk) (now out) ⌝ }
-    ensures { λ s′. ⌜ TurnedIn pool s carry chunk out s′ total first heads start end enabled previous next lprev lnext ⌝ }
+    ensures { λ s′. ⌜ TurnedIn pool s carry chunk out s′ forms words total first heads start end enabled previous next lprev lnext ⌝ }
 {
     let reading = s.reading;
     if reading.from < s.count {
@@ -168,6 +181,8 @@ fn turn(
             next,
             lprev,
             lnext,
+            forms,
+            words,
             s,
             carry,
             chunk,
@@ -195,6 +210,8 @@ fn turn(
             next,
             lprev,
             lnext,
+            forms,
+            words,
             s,
             carry,
             out,
@@ -203,7 +220,7 @@ fn turn(
     restarted(s, count, false)
 }
 
-// Ten locals are the whole state. A proved loop has to end, and nothing says that an input does: the turns are more than any run takes.
+// Twelve locals are the whole state: the ten fields of the allocator, the forms of the lines, and the words of the register. A proved loop has to end, and nothing says that an input does: the turns are more than any run takes.
 fn answer_all(carry: &mut [u8], chunk: &mut [u8], out: &mut [u8]) -> Session
     requires { ⌜ (kept ≤ length (now carry)) × (room pool ≤ length (now out)) ⌝ }
     ensures { λ s. ⌜ Over pool s (is carry) (is chunk) (is out) ⌝ }
@@ -218,6 +235,8 @@ fn answer_all(carry: &mut [u8], chunk: &mut [u8], out: &mut [u8]) -> Session
     let mut next = [NONE; POOL];
     let mut lprev = [NONE; POOL];
     let mut lnext = [NONE; POOL];
+    let mut forms: u8 = OPEN;
+    let mut words = [0u64; WORDS];
     let mut session = begun();
     let mut turns = u64::MAX;
     while goes_on(session) && turns > 0 {
@@ -232,6 +251,8 @@ fn answer_all(carry: &mut [u8], chunk: &mut [u8], out: &mut [u8]) -> Session
             &mut next,
             &mut lprev,
             &mut lnext,
+            &mut forms,
+            &mut words,
             session,
             carry,
             chunk,

@@ -1,3 +1,3 @@
 -- Laws of what is printed: Listings on a chain's listing, Replies on a line.
 mod Listings
-mod Replies
+pub mod Replies

@@ -71,7 +71,7 @@ fn answer_request(
 }
 
 // The head of a listing with this total, and the ranges that the links lead along.
-fn put_listing(
+pub fn put_listing(
     total: u64,
     first: RecordIndex,
     start: &[u64; POOL],

@@ -7,32 +7,24 @@ use native.Mathlib.Omega.{arith}
 use borrow.Author.Tests.{leb-true}
 use lib.ListN.{length, take, drop, length-append, length-take, length-drop}
 use lib.Seq.{length-take-le, take-at, take-nil}
-use Rattle.pool_state.specs.declared.MemoryAllocator.{MemoryAllocator}
-use Rattle.script_texts.specs.Answers.{Puts}
-use Rattle.script_lines.specs.Script.{lineOf}
-use Rattle.script_lines.specs.declared.parse.Line.{Line}
+use Rattle.script_forms.specs.Forms.{Desk, says, leaves, Replies}
+use Rattle.script_forms.proofs.Capped.{says-take, leaves-take}
 use Rattle.script_texts.proofs.Buffers.{all-bytes, all-next}
-use Rattle.script_answers.specs.Script.{room, roomy, textOf, stateAfter, Answers}
+use Rattle.script_answers.specs.Script.{room, roomy}
 use Rattle.script_chunks.specs.Input.{Told, ends, joined, heard, closed, toldOfAll, kept, between, Holds, Joins, Shows, Ready, Rests, Steps, Hears, Closes}
 use Rattle.script_chunks.specs.declared.Reading.{Reading}
-use Rattle.script_chunks.proofs.Carrying.{carried, held-line}
+use Rattle.script_chunks.proofs.Carrying.{carried}
 
 -- where there is room, the text follows what stood before `at`
-module _ (n : ℕ) (s : MemoryAllocator) (l : Line) (out : List ℕ) (at : ℕ) (s′ : MemoryAllocator) (r : ℕ) (out′ : List ℕ) (a : Answers n s l out at s′ r out′) (yes : roomy n out at ≡ true) where
-  space : at + length (textOf n s l) ≤ length out
-  space = let w = a .whole yes in let h = leb-true (at + room n) (length out) yes in omega arith
+module _ (n : ℕ) (s : Desk) (l out : List ℕ) (at : ℕ) (s′ : Desk) (r : ℕ) (out′ : List ℕ) (a : Replies n s l out at s′ r out′) (yes : roomy n out at ≡ true) where
+  space : at + length (says n s l) ≤ length out
+  space = let w = a .text .short in let h = leb-true (at + room n) (length out) yes in omega arith
 
-  puts : Puts (textOf n s l) out at out′ r
-  puts = record { bytes = rw yes at (a .bytes); next = rw yes at (a .next) }
+  next-is : r ≡ at + length (says n s l)
+  next-is = all-next (says n s l) out at out′ r space (a .text .puts)
 
-  pub new-state : s′ ≡ stateAfter n s l
-  new-state = rw yes at (a .state)
-
-  next-is : r ≡ at + length (textOf n s l)
-  next-is = all-next (textOf n s l) out at out′ r space puts
-
-  bytes-are : out′ ≡ (take at out ++ textOf n s l) ++ drop (at + length (textOf n s l)) out
-  bytes-are = all-bytes (textOf n s l) out at out′ r space puts ∙ sym (append-assoc (take at out) (textOf n s l) (drop (at + length (textOf n s l)) out))
+  bytes-are : out′ ≡ (take at out ++ says n s l) ++ drop (at + length (says n s l)) out
+  bytes-are = all-bytes (says n s l) out at out′ r space (a .text .puts) ∙ sym (append-assoc (take at out) (says n s l) (drop (at + length (says n s l)) out))
 
   pub next-within : r ≤ length out
   next-within = let h = space in let e = next-is in omega arith
@@ -40,31 +32,33 @@ module _ (n : ℕ) (s : MemoryAllocator) (l : Line) (out : List ℕ) (at : ℕ) 
   pub same-size : length out′ ≡ length out
   same-size =
       let h = space in
-      ap length bytes-are ∙ length-append (take at out ++ textOf n s l) (drop (at + length (textOf n s l)) out)
+      ap length bytes-are ∙ length-append (take at out ++ says n s l) (drop (at + length (says n s l)) out)
       ∙ simp (length-append, length-take, length-drop) (omega arith)
 
-  pub new-text : take r out′ ≡ take at out ++ textOf n s l
+  pub new-text : take r out′ ≡ take at out ++ says n s l
   new-text =
       let h = space in
-      let k : length (take at out ++ textOf n s l) ≡ r = length-append (take at out) (textOf n s l) ∙ (let e = length-take-le at out (let z : at ≤ length out = omega arith in z) in let i = next-is in omega arith) in
-      ap (take r) bytes-are ∙ take-at (take at out ++ textOf n s l) (drop (at + length (textOf n s l)) out) r k
+      let k : length (take at out ++ says n s l) ≡ r = length-append (take at out) (says n s l) ∙ (let e = length-take-le at out (let z : at ≤ length out = omega arith in z) in let i = next-is in omega arith) in
+      ap (take r) bytes-are ∙ take-at (take at out ++ says n s l) (drop (at + length (says n s l)) out) r k
 
 pub roomy-within : (n : ℕ) (out : List ℕ) (at : ℕ) → roomy n out at ≡ true → at ≤ length out
 roomy-within n out at e = let h = leb-true (at + room n) (length out) e in omega arith
 
 -- what is told of a line that is held, once it is answered
-module _ (n : ℕ) (s : MemoryAllocator) (p carry out : List ℕ) (held at : ℕ) (s′ : MemoryAllocator) (next : ℕ) (out′ : List ℕ) (enough : kept ≤ length carry) (yes : roomy n out at ≡ true)
-    (w : Answers n s (lineOf (take held carry)) out at s′ next out′) (h : Holds p carry held) where
-  pub line-state : (m : MemoryAllocator) → s ≡ m → s′ ≡ stateAfter n m (lineOf p)
-  line-state m e = new-state n s (lineOf (take held carry)) out at s′ next out′ w yes ∙ rw (held-line p carry held enough h, e)
+module _ (n : ℕ) (s : Desk) (p carry out : List ℕ) (held at : ℕ) (s′ : Desk) (next : ℕ) (out′ : List ℕ) (enough : kept ≤ length carry) (yes : roomy n out at ≡ true)
+    (w : Replies n s (take held carry) out at s′ next out′) (h : Holds p carry held) where
+  pub line-state : (m : Desk) → s ≡ m → s′ ≡ leaves n m p
+  line-state m e = w .left ∙ ap (leaves n s) (h .bytes) ∙ leaves-take n s (length carry) p (omega arith) ∙ ap (λ (d : Desk). leaves n d p) e
 
-  pub line-text : (m : MemoryAllocator) (t : List ℕ) → s ≡ m → take at out ≡ t → take next out′ ≡ t ++ textOf n m (lineOf p)
-  line-text m t e f = new-text n s (lineOf (take held carry)) out at s′ next out′ w yes ∙ rw (held-line p carry held enough h, e, f)
+  pub line-text : (m : Desk) (t : List ℕ) → s ≡ m → take at out ≡ t → take next out′ ≡ t ++ says n m p
+  line-text m t e f =
+      new-text n s (take held carry) out at s′ next out′ w yes ∙ ap (λ (x : List ℕ). take at out ++ x) (ap (says n s) (h .bytes) ∙ says-take n s (length carry) p (omega arith) ∙ ap (λ (d : Desk). says n d p) e)
+      ∙ ap (λ (x : List ℕ). x ++ says n m p) f
 
 -- ---- a line that a newline ends
 
-module _ (n : ℕ) (s : MemoryAllocator) (r : Reading) (l carry out carry′ : List ℕ) (held to : ℕ) (s′ : MemoryAllocator) (next : ℕ) (out′ : List ℕ) (g : Ready n r carry out)
-    (j : Joins l carry (r .held) carry′ held) (w : Answers n s (lineOf (take held carry′)) out (r .at) s′ next out′) where
+module _ (n : ℕ) (s : Desk) (r : Reading) (l carry out carry′ : List ℕ) (held to : ℕ) (s′ : Desk) (next : ℕ) (out′ : List ℕ) (g : Ready n r carry out)
+    (j : Joins l carry (r .held) carry′ held) (w : Replies n s (take held carry′) out (r .at) s′ next out′) where
   abbrev after : Reading
   after = record { held = 0; from = to; at = next }
 
@@ -87,7 +81,7 @@ module _ (n : ℕ) (s : MemoryAllocator) (r : Reading) (l carry out carry′ : L
 
 -- ---- bytes that end no line
 
-pub rest-steps : (l carry out carry′ : List ℕ) (to : ℕ) (s : MemoryAllocator) (r r′ : Reading) → r .at ≤ length out → Rests l to r carry r′ carry′ → Steps (λ (t : Told). joined t l) to s r carry out s r′ carry′ out
+pub rest-steps : (l carry out carry′ : List ℕ) (to : ℕ) (s : Desk) (r r′ : Reading) → r .at ≤ length out → Rests l to r carry r′ carry′ → Steps (λ (t : Told). joined t l) to s r carry out s r′ carry′ out
 unfolding joined
 rest-steps l carry out carry′ to s r r′ h w =
     record {
@@ -106,7 +100,7 @@ rest-steps l carry out carry′ to s r r′ h w =
 
 -- ---- a part of the chunk
 
-pub hears : (n : ℕ) (u : Told → Told) (to : ℕ) (s : MemoryAllocator) (r : Reading) (carry chunk out : List ℕ) (s′ : MemoryAllocator) (r′ : Reading) (carry′ out′ : List ℕ) → r .from < to → to ≤ length chunk
+pub hears : (n : ℕ) (u : Told → Told) (to : ℕ) (s : Desk) (r : Reading) (carry chunk out : List ℕ) (s′ : Desk) (r′ : Reading) (carry′ out′ : List ℕ) → r .from < to → to ≤ length chunk
     → ((t : Told) → heard n t (between (r .from) to chunk) ≡ u t) → Steps u to s r carry out s′ r′ carry′ out′ → Hears n s r carry chunk out s′ r′ carry′ out′
 hears n u to s r carry chunk out s′ r′ carry′ out′ low high e w =
     record {
@@ -129,7 +123,7 @@ none-held (suc m) (x ∷ p) h e = absurd (let z : _≡_ {A = ℕ} 0 1 = cc in le
 none-held zero (x ∷ p) h e = absurd (let v : ⊥ = omega arith in v)
 
 -- nothing is held
-module _ (n : ℕ) (s : MemoryAllocator) (r : Reading) (carry out : List ℕ) (g : Ready n r carry out) (e : r .held ≡ 0) where
+module _ (n : ℕ) (s : Desk) (r : Reading) (carry out : List ℕ) (g : Ready n r carry out) (e : r .held ≡ 0) where
   nothing : (t : Told) → Shows t s r carry out → t .part ≡ []
   nothing t z = let c = g .carries in none-held (length carry) (t .part) (omega arith) (sym (rw e at (z .part .bytes)))
 
@@ -143,8 +137,8 @@ closed-some n t [] h = absurd (let v : ⊥ = omega arith in v)
 closed-some n t (x ∷ p) h = refl
 
 -- a line is held
-module _ (n : ℕ) (s : MemoryAllocator) (r : Reading) (carry out : List ℕ) (s′ : MemoryAllocator) (next : ℕ) (out′ : List ℕ) (g : Ready n r carry out) (e : r .held ≡ 0 → ⊥)
-    (w : Answers n s (lineOf (take (r .held) carry)) out (r .at) s′ next out′) where
+module _ (n : ℕ) (s : Desk) (r : Reading) (carry out : List ℕ) (s′ : Desk) (next : ℕ) (out′ : List ℕ) (g : Ready n r carry out) (e : r .held ≡ 0 → ⊥)
+    (w : Replies n s (take (r .held) carry) out (r .at) s′ next out′) where
   something : (t : Told) → Shows t s r carry out → ends n t ≡ toldOfAll n t
   something t z =
       let x = length-take-le (r .held) carry (g .held) in

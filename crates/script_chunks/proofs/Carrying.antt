@@ -1,16 +1,12 @@
 -- The line that is held: the first bytes of it, in the first places of the carry. Assumes nothing.
 use mathlib.Core.Path.{_≡_, refl, sym, ap, _∙_}
 use mathlib.Core.List.{List, [], _∷_, _++_, append-assoc, append-nil}
-use mathlib.Core.Logic.{⊎-elim}
 use Prim.Native.Nat.{ℕ, zero, suc, _+_, _-_, _<_, _≤_}
 use native.Mathlib.Numerals.{add-one}
 use native.Mathlib.Omega.{arith}
-use borrow.Author.Tests.{lt-leb}
 use lib.ListN.{length, take, drop, set, getD, length-drop, length-set}
 use lib.Seq.{length-take-le, take-all, take-at, take-suc, take-suc-set, getD-drop}
-use Rattle.linked_lists.proofs.Laws.{below?}
-use Rattle.script_lines.specs.Script.{lineOf}
-use Rattle.script_chunks.specs.Input.{kept, between, Holds, Joins}
+use Rattle.script_chunks.specs.Input.{between, Holds, Joins}
 use Rattle.script_chunks.proofs.Hearing.{between-split}
 
 -- ---- what is held is enough
@@ -26,19 +22,6 @@ carried p l carry carry′ held r h j =
       within = rw (j .size) (j .within);
       bytes = j .bytes ∙ rw (h .bytes, j .size) (take-cap (length carry) p l);
     }
-
-too-long : (l : List ℕ) → 80 < length l → lineOf l ≡ Rattle.script_lines.specs.declared.parse.Line.the-variants.Bad
-unfolding lineOf
-too-long l h = rw (lt-leb (length l) 80 h)
-
-pub capped : (m : ℕ) (p : List ℕ) → kept ≤ m → lineOf (take m p) ≡ lineOf p
-capped m p h = ⊎-elim
-    (λ (long : m < length p). too-long (take m p) (let e = length-take-le m p (let k : m ≤ length p = omega arith in k) in omega arith) ∙ sym (too-long p (omega arith)))
-    (λ (short : length p ≤ m). ap lineOf (take-all m p short))
-    (below? m (length p))
-
-pub held-line : (p carry : List ℕ) (held : ℕ) → kept ≤ length carry → Holds p carry held → lineOf (take held carry) ≡ lineOf p
-held-line p carry held h w = ap lineOf (w .bytes) ∙ capped (length carry) p h
 
 -- ---- the bytes that join it
 

@@ -7,11 +7,7 @@ use native.Mathlib.Omega.{arith}
 use lib.Dec.{eqb}
 use lib.ListN.{length, take, drop, length-take, length-drop}
 use lib.Seq.{take-take, take-add, drop-drop}
-use Rattle.rules.specs.Rules.{empty}
-use Rattle.pool_state.specs.State.{stateOf}
-use Rattle.pool_state.specs.declared.MemoryAllocator.{MemoryAllocator}
-use Rattle.script_lines.specs.Script.{lineOf}
-use Rattle.script_answers.specs.Script.{textOf, stateAfter}
+use Rattle.script_forms.specs.Forms.{Desk, openDesk, says, leaves}
 use Rattle.script_lines.specs.Search.{firstFrom, firstIn}
 use Rattle.script_lines.specs.declared.find.Found.the-variants.{At, Nothing}
 use Rattle.script_chunks.specs.Input.{Told, silent, ends, joined, heard, between}
@@ -22,14 +18,14 @@ unfolding heard
 heard-append n t [] b = refl
 heard-append n t (x ∷ a) b = heard-append n (cond (eqb x 10) (ends n t) (joined t (x ∷ []))) a b
 
-abbrev pub told : MemoryAllocator → List ℕ → List ℕ → Told
+abbrev pub told : Desk → List ℕ → List ℕ → Told
 told s p t = record { state = s; part = p; text = t }
 
 -- what was printed before changes neither the state nor the line
-pub heard-text : (n : ℕ) (s : MemoryAllocator) (p t u l : List ℕ) → (heard n (told s p t) l .state ≡ heard n (told s p u) l .state) × (heard n (told s p t) l .part ≡ heard n (told s p u) l .part)
+pub heard-text : (n : ℕ) (s : Desk) (p t u l : List ℕ) → (heard n (told s p t) l .state ≡ heard n (told s p u) l .state) × (heard n (told s p t) l .part ≡ heard n (told s p u) l .part)
 unfolding heard ends joined
 heard-text n s p t u [] = (refl, refl)
-heard-text n s p t u (b ∷ l) = go (eqb b 10) (heard-text n (stateAfter n s (lineOf p)) [] (t ++ textOf n s (lineOf p)) (u ++ textOf n s (lineOf p)) l) (heard-text n s (p ++ (b ∷ [])) t u l)
+heard-text n s p t u (b ∷ l) = go (eqb b 10) (heard-text n (leaves n s p) [] (t ++ says n s p) (u ++ says n s p) l) (heard-text n s (p ++ (b ∷ [])) t u l)
   where
     go : (c : Bool)
         → (heard n (ends n (told s p t)) l .state ≡ heard n (ends n (told s p u)) l .state) × (heard n (ends n (told s p t)) l .part ≡ heard n (ends n (told s p u)) l .part)
@@ -94,7 +90,7 @@ module _ (n : ℕ) (chunk : List ℕ) (from end : ℕ) (h : from ≤ length chun
 
   pub end-within : (from ≤ end) × (end < length chunk)
   end-within =
-      let w = ended n (silent (stateOf n empty)) rest from end (sym e) in
+      let w = ended n (silent (openDesk n)) rest from end (sym e) in
       let low = w .0 in
       let high = w .1 .0 in
       let size = length-rest in

@@ -1,4 +1,4 @@
--- What is heard leaves a sound state sound. n is the number of records. Assumes nothing.
+-- What is heard leaves a sound desk sound. n is the number of records. Assumes nothing.
 use mathlib.Core.Path.{_≡_, refl, sym, subst}
 use mathlib.Core.Bool.{Bool, true, false, cond}
 use mathlib.Core.List.{List, [], _∷_}
@@ -8,38 +8,26 @@ use lib.ListN.{length, take}
 use lib.Seq.{length-take-le, take-all}
 use native.Mathlib.Omega.{arith}
 use Rattle.linked_lists.specs.Links.{none}
-use Rattle.pool_state.specs.Sound.{SoundState}
-use Rattle.pool_state.specs.declared.MemoryAllocator.{MemoryAllocator}
-use Rattle.calls.specs.Calls.{callOf}
-use Rattle.batch.proofs.Histories.{made-sound}
-use Rattle.script_lines.specs.Script.{lineOf}
-use Rattle.script_lines.specs.declared.parse.Line.{Line}
-use Rattle.script_lines.specs.declared.parse.Line.the-variants as Say
-use Rattle.script_answers.specs.Script.{stateAfter}
+use Rattle.script_forms.specs.Forms.{Desk, SoundDesk}
+use Rattle.script_forms.proofs.Soundness.{leaves-sound}
 use Rattle.script_chunks.specs.Input.{Told, ends, joined, heard, Shows, Steps}
 use Rattle.script_chunks.specs.declared.Reading.{Reading}
 
 module _ (n : ℕ) (small : n ≤ none) where
-  after-sound : (s : MemoryAllocator) (l : Line) → SoundState n s → SoundState n (stateAfter n s l)
-  unfolding stateAfter
-  after-sound s (Say.Asks q) h = made-sound n small s h (callOf q)
-  after-sound s Say.List h = h
-  after-sound s Say.Bad h = h
-
-  pub heard-sound : (t : Told) (l : List ℕ) → SoundState n (t .state) → SoundState n (heard n t l .state)
+  pub heard-sound : (t : Told) (l : List ℕ) → SoundDesk n (t .state) → SoundDesk n (heard n t l .state)
   unfolding heard ends joined
   heard-sound t [] h = h
-  heard-sound t (b ∷ l) h = go (eqb b 10) (heard-sound (ends n t) l (after-sound (t .state) (lineOf (t .part)) h)) (heard-sound (joined t (b ∷ [])) l h)
+  heard-sound t (b ∷ l) h = go (eqb b 10) (heard-sound (ends n t) l (leaves-sound n small (t .state) (t .part) h)) (heard-sound (joined t (b ∷ [])) l h)
     where
-      go : (c : Bool) → SoundState n (heard n (ends n t) l .state) → SoundState n (heard n (joined t (b ∷ [])) l .state) → SoundState n (heard n (cond c (ends n t) (joined t (b ∷ []))) l .state)
+      go : (c : Bool) → SoundDesk n (heard n (ends n t) l .state) → SoundDesk n (heard n (joined t (b ∷ [])) l .state) → SoundDesk n (heard n (cond c (ends n t) (joined t (b ∷ []))) l .state)
       go true e f = e
       go false e f = f
 
   -- a step that hears bytes
-  pub steps-sound : (l : List ℕ) (to : ℕ) (s : MemoryAllocator) (r : Reading) (carry out : List ℕ) (s′ : MemoryAllocator) (r′ : Reading) (carry′ out′ : List ℕ)
-      → r .held ≤ length carry → r .at ≤ length out → SoundState n s → Steps (λ (t : Told). heard n t l) to s r carry out s′ r′ carry′ out′ → SoundState n s′
+  pub steps-sound : (l : List ℕ) (to : ℕ) (s : Desk) (r : Reading) (carry out : List ℕ) (s′ : Desk) (r′ : Reading) (carry′ out′ : List ℕ)
+      → r .held ≤ length carry → r .at ≤ length out → SoundDesk n s → Steps (λ (t : Told). heard n t l) to s r carry out s′ r′ carry′ out′ → SoundDesk n s′
   steps-sound l to s r carry out s′ r′ carry′ out′ h k e w =
       let t : Told = record { state = s; part = take (r .held) carry; text = take (r .at) out } in
       let short = length-take-le (r .held) carry h in
       let z : Shows t s r carry out = record { state = refl; part = record { within = h; bytes = sym (take-all (length carry) (take (r .held) carry) (omega arith)) }; room = k; text = refl } in
-      subst (SoundState n) (sym (w .shows t z .state)) (heard-sound t l e)
+      subst (SoundDesk n) (sym (w .shows t z .state)) (heard-sound t l e)

@@ -5,21 +5,20 @@ use mathlib.Core.List.{List, [], _∷_, _++_}
 use mathlib.Core.Path.{_≡_}
 use lib.Dec.{eqb}
 use lib.ListN.{length, take, drop}
-use Rattle.pool_state.specs.Lent.{Lent, was, is, OfLent, turns}
-use Rattle.pool_state.specs.declared.MemoryAllocator.{MemoryAllocator}
-use Rattle.script_lines.specs.Script.{lineOf}
-use Rattle.script_answers.specs.Script.{roomy, textOf, stateAfter}
+use Rattle.pool_state.specs.Lent.{Lent, was, is, OfLent}
+use Rattle.script_answers.specs.Script.{roomy}
+use Rattle.script_forms.specs.Forms.{Desk, says, leaves, turnsDesk}
 use Rattle.script_chunks.specs.declared.Reading.{Reading}
 
--- the state, the bytes of the line that has not ended, and all that was printed
+-- the forms of the lines and the state, the bytes of the line that has not ended, and all that was printed
 pub record Told : Type 0 where
-  pub state : MemoryAllocator
+  pub state : Desk
   pub part : List ℕ
   pub text : List ℕ
 
 -- the line has ended, and is answered
 unfoldable pub ends : ℕ → Told → Told
-ends n t = record { state = stateAfter n (t .state) (lineOf (t .part)); part = []; text = t .text ++ textOf n (t .state) (lineOf (t .part)) }
+ends n t = record { state = leaves n (t .state) (t .part); part = []; text = t .text ++ says n (t .state) (t .part) }
 
 unfoldable pub joined : Told → List ℕ → Told
 joined t l = record { state = t .state; part = t .part ++ l; text = t .text }
@@ -34,7 +33,7 @@ unfoldable pub closed : ℕ → Told → List ℕ → Told
 closed n t [] = t
 closed n t (b ∷ l) = ends n t
 
-abbrev pub silent : MemoryAllocator → Told
+abbrev pub silent : Desk → Told
 silent s = record { state = s; part = []; text = [] }
 
 -- what was told, and all that was printed, once the input has ended
@@ -65,7 +64,7 @@ pub record Joins (l carry : List ℕ) (held : ℕ) (carry′ : List ℕ) (r : �
   pub bytes : take r carry′ ≡ take (length carry) (take held carry ++ l)
 
 -- what was told: the state s, the line in the carry, and the text in the first places of the output
-pub record Shows (t : Told) (s : MemoryAllocator) (r : Reading) (carry out : List ℕ) : Type 0 where
+pub record Shows (t : Told) (s : Desk) (r : Reading) (carry out : List ℕ) : Type 0 where
   pub state : s ≡ t .state
   pub part : Holds (t .part) carry (r .held)
   pub room : r .at ≤ length out
@@ -86,7 +85,7 @@ pub record Rests (l : List ℕ) (to : ℕ) (r : Reading) (carry : List ℕ) (r�
   pub at : r′ .at ≡ r .at
 
 -- the chunk is heard up to the place `to`, which makes u of what was told
-pub record Steps (u : Told → Told) (to : ℕ) (s : MemoryAllocator) (r : Reading) (carry out : List ℕ) (s′ : MemoryAllocator) (r′ : Reading) (carry′ out′ : List ℕ) : Type 0 where
+pub record Steps (u : Told → Told) (to : ℕ) (s : Desk) (r : Reading) (carry out : List ℕ) (s′ : Desk) (r′ : Reading) (carry′ out′ : List ℕ) : Type 0 where
   pub place : r′ .from ≡ to
   pub size : length carry′ ≡ length carry
   pub held : r′ .held ≤ length carry
@@ -94,24 +93,24 @@ pub record Steps (u : Told → Told) (to : ℕ) (s : MemoryAllocator) (r : Readi
   pub shows : (t : Told) → Shows t s r carry out → Shows (u t) s′ r′ carry′ out′
 
 -- a part of the chunk is heard, and not nothing
-pub record Hears (n : ℕ) (s : MemoryAllocator) (r : Reading) (carry chunk out : List ℕ) (s′ : MemoryAllocator) (r′ : Reading) (carry′ out′ : List ℕ) : Type 0 where
+pub record Hears (n : ℕ) (s : Desk) (r : Reading) (carry chunk out : List ℕ) (s′ : Desk) (r′ : Reading) (carry′ out′ : List ℕ) : Type 0 where
   pub onward : r .from < r′ .from
   pub within : r′ .from ≤ length chunk
   pub steps : Steps (λ (t : Told). heard n t (between (r .from) (r′ .from) chunk)) (r′ .from) s r carry out s′ r′ carry′ out′
 
 -- the input is at its end
-pub record Closes (n : ℕ) (s : MemoryAllocator) (r : Reading) (carry out : List ℕ) (s′ : MemoryAllocator) (at : ℕ) (out′ : List ℕ) : Type 0 where
+pub record Closes (n : ℕ) (s : Desk) (r : Reading) (carry out : List ℕ) (s′ : Desk) (at : ℕ) (out′ : List ℕ) : Type 0 where
   pub room : at ≤ length out
   pub state : (t : Told) → Shows t s r carry out → s′ ≡ toldOfAll n t .state
   pub text : (t : Told) → Shows t s r carry out → take at out′ ≡ textOfAll n t
 
--- ---- the same of the ten fields of a state that are lent
+-- ---- the same of the ten fields that are lent, the forms, and the words of the register
 
-abbrev pub StepsIn : (Told → Told) → ℕ → Reading → Lent (List ℕ) → Lent (List ℕ) → Reading → OfLent
-StepsIn u to r carry out r′ = turns (λ s s′. Steps u to s r (was carry) (was out) s′ r′ (is carry) (is out))
+abbrev pub StepsIn : (Told → Told) → ℕ → Reading → Lent (List ℕ) → Lent (List ℕ) → Reading → Lent ℕ → Lent (List ℕ) → OfLent
+StepsIn u to r carry out r′ = turnsDesk (λ s s′. Steps u to s r (was carry) (was out) s′ r′ (is carry) (is out))
 
-abbrev pub HearsIn : ℕ → Reading → Lent (List ℕ) → Lent (List ℕ) → Lent (List ℕ) → Reading → OfLent
-HearsIn n r carry chunk out r′ = turns (λ s s′. Hears n s r (was carry) (was chunk) (was out) s′ r′ (is carry) (is out))
+abbrev pub HearsIn : ℕ → Reading → Lent (List ℕ) → Lent (List ℕ) → Lent (List ℕ) → Reading → Lent ℕ → Lent (List ℕ) → OfLent
+HearsIn n r carry chunk out r′ = turnsDesk (λ s s′. Hears n s r (was carry) (was chunk) (was out) s′ r′ (is carry) (is out))
 
-abbrev pub ClosesIn : ℕ → Reading → Lent (List ℕ) → Lent (List ℕ) → ℕ → OfLent
-ClosesIn n r carry out at = turns (λ s s′. Closes n s r (was carry) (was out) s′ at (is out))
+abbrev pub ClosesIn : ℕ → Reading → Lent (List ℕ) → Lent (List ℕ) → ℕ → Lent ℕ → Lent (List ℕ) → OfLent
+ClosesIn n r carry out at = turnsDesk (λ s s′. Closes n s r (was carry) (was out) s′ at (is out))

@@ -1,13 +1,15 @@
-// The input in chunks, answered on the lent fields of a sound state. A line that a chunk does not end is carried over to the next.
+// The input in chunks, answered on the lent fields of a sound state, with the forms of its lines and the words of its register. A line that a chunk does not end is carried over to the next.
+use holder_words::WORDS;
 use pool_state::LISTS;
 use pool_state::POOL;
-use script_answers::answer_line;
+use script_forms::answer_any;
 use script_lines::find::Found;
 use script_lines::find::find_newline;
 ghost use Prim.Native.Nat.{_+_, _<_, _≤_};
 ghost use lib.ListN.{length};
 ghost use Rattle.pool_state.specs.Shown.{pool};
-ghost use Rattle.pool_state.specs.Lent.{was, is, HoldsSome};
+ghost use Rattle.pool_state.specs.Lent.{was, is};
+ghost use Rattle.script_forms.specs.Forms.{SoundIn};
 ghost use Rattle.script_chunks.specs.Input.{Told, ends, joined, between, Joins, Ready, Rests, StepsIn, HearsIn, ClosesIn};
 
 // How many bytes of the carry belong to the line that has not ended; the next place in the chunk; the next in the output.
@@ -47,19 +49,21 @@ fn answer_ended(
     next: &mut [u16; POOL],
     lprev: &mut [u16; POOL],
     lnext: &mut [u16; POOL],
+    forms: &mut u8,
+    words: &mut [u64; WORDS],
     r: Reading,
     carry: &mut [u8],
     chunk: &[u8],
     stop: usize,
     out: &mut [u8],
 ) -> Reading
-    requires { ⌜ HoldsSome pool total first heads start end enabled previous next lprev lnext ⌝ }
+    requires { ⌜ SoundIn pool forms words total first heads start end enabled previous next lprev lnext ⌝ }
     requires { ⌜ Ready pool r (now carry) (now out) × (r .from ≤ stop) × (stop < length (now chunk)) ⌝ }
-    ensures { λ r′. ⌜ StepsIn (λ (t : Told). ends pool (joined t (between (r .from) stop (was chunk)))) (stop + 1) r carry out r′ total first heads start end enabled previous next lprev lnext ⌝ }
+    ensures { λ r′. ⌜ StepsIn (λ (t : Told). ends pool (joined t (between (r .from) stop (was chunk)))) (stop + 1) r carry out r′ forms words total first heads start end enabled previous next lprev lnext ⌝ }
 {
     let from = stop + 1;
     let held = hold(carry, r.held, chunk, r.from, stop);
-    let at = answer_line(
+    let at = answer_any(
         total,
         first,
         heads,
@@ -70,6 +74,8 @@ fn answer_ended(
         next,
         lprev,
         lnext,
+        forms,
+        words,
         &carry[..held],
         out,
         r.at,
@@ -107,14 +113,16 @@ pub fn answer_next(
     next: &mut [u16; POOL],
     lprev: &mut [u16; POOL],
     lnext: &mut [u16; POOL],
+    forms: &mut u8,
+    words: &mut [u64; WORDS],
     r: Reading,
     carry: &mut [u8],
     chunk: &[u8],
     out: &mut [u8],
 ) -> Reading
-    requires { ⌜ HoldsSome pool total first heads start end enabled previous next lprev lnext ⌝ }
+    requires { ⌜ SoundIn pool forms words total first heads start end enabled previous next lprev lnext ⌝ }
     requires { ⌜ Ready pool r (now carry) (now out) × (r .from < length (now chunk)) ⌝ }
-    ensures { λ r′. ⌜ HearsIn pool r carry chunk out r′ total first heads start end enabled previous next lprev lnext ⌝ }
+    ensures { λ r′. ⌜ HearsIn pool r carry chunk out r′ forms words total first heads start end enabled previous next lprev lnext ⌝ }
 {
     match find_newline(chunk, r.from, chunk.len()) {
         Found::At(stop) => answer_ended(
@@ -128,6 +136,8 @@ pub fn answer_next(
             next,
             lprev,
             lnext,
+            forms,
+            words,
             r,
             carry,
             chunk,
@@ -150,19 +160,21 @@ pub fn answer_last(
     next: &mut [u16; POOL],
     lprev: &mut [u16; POOL],
     lnext: &mut [u16; POOL],
+    forms: &mut u8,
+    words: &mut [u64; WORDS],
     r: Reading,
     carry: &[u8],
     out: &mut [u8],
 ) -> usize
-    requires { ⌜ HoldsSome pool total first heads start end enabled previous next lprev lnext ⌝ }
+    requires { ⌜ SoundIn pool forms words total first heads start end enabled previous next lprev lnext ⌝ }
     requires { ⌜ Ready pool r (now carry) (now out) ⌝ }
-    ensures { λ at. ⌜ ClosesIn pool r carry out at total first heads start end enabled previous next lprev lnext ⌝ }
+    ensures { λ at. ⌜ ClosesIn pool r carry out at forms words total first heads start end enabled previous next lprev lnext ⌝ }
 {
     let held = r.held;
     if held == 0 {
         return r.at;
     }
-    answer_line(
+    answer_any(
         total,
         first,
         heads,
@@ -173,6 +185,8 @@ pub fn answer_last(
         next,
         lprev,
         lnext,
+        forms,
+        words,
         &carry[..held],
         out,
         r.at,

@@ -9,14 +9,8 @@ use lib.Dec.{eqb, ltb}
 use lib.ListN.{length, take, drop, length-take, length-drop, take-append-drop}
 use lib.Seq.{take-nil, drop-nil, drop-drop, length-take-le}
 use Rattle.linked_lists.specs.Links.{none}
-use Rattle.rules.specs.Rules.{empty}
-use Rattle.rules_laws.proofs.Kept.{empty-sound}
-use Rattle.pool_state.specs.State.{stateOf}
-use Rattle.pool_state.specs.Sound.{SoundState}
-use Rattle.pool_state.specs.declared.MemoryAllocator.{MemoryAllocator}
-use Rattle.memory_allocator.proofs.Steps.{sound-held}
-use Rattle.script_lines.specs.Script.{lineOf}
-use Rattle.script_answers.specs.Script.{textOf, stateAfter}
+use Rattle.script_forms.specs.Forms.{Desk, openDesk, says, leaves, SoundDesk}
+use Rattle.script_forms.proofs.Soundness.{open-sound}
 use Rattle.script_chunks.specs.Input.{Told, silent, ends, joined, heard, closed, toldOfAll, textOfAll, between, Shows}
 use Rattle.script_chunks.specs.declared.Reading.{Reading}
 use Rattle.script_chunks.proofs.Hearing.{told, heard-append, heard-text}
@@ -29,13 +23,13 @@ use Rattle.script_sessions.proofs.Turns.{true-false}
 -- ---- texts only grow
 
 -- what was printed before stands before all that is printed later
-heard-after : (n : ℕ) (s : MemoryAllocator) (p u t l : List ℕ) → heard n (told s p (u ++ t)) l .text ≡ u ++ heard n (told s p t) l .text
+heard-after : (n : ℕ) (s : Desk) (p u t l : List ℕ) → heard n (told s p (u ++ t)) l .text ≡ u ++ heard n (told s p t) l .text
 unfolding heard ends joined
 heard-after n s p u t [] = refl
 heard-after n s p u t (b ∷ l) =
     go (eqb b 10)
-    (ap (λ (x : List ℕ). heard n (told (stateAfter n s (lineOf p)) [] x) l .text) (append-assoc u t (textOf n s (lineOf p)))
-    ∙ heard-after n (stateAfter n s (lineOf p)) [] u (t ++ textOf n s (lineOf p)) l)
+    (ap (λ (x : List ℕ). heard n (told (leaves n s p) [] x) l .text) (append-assoc u t (says n s p))
+    ∙ heard-after n (leaves n s p) [] u (t ++ says n s p) l)
     (heard-after n s (p ++ (b ∷ [])) u t l)
   where
     go : (c : Bool) → heard n (ends n (told s p (u ++ t))) l .text ≡ u ++ heard n (ends n (told s p t)) l .text
@@ -90,14 +84,14 @@ going s e = go (s .ended) e
     go true h = true-false (sym h)
     go false h = refl
 
-module _ (n : ℕ) (l : List ℕ) (m : MemoryAllocator) (s : Session) (carry : List ℕ) (h : Tells (toldOf n l) m (s .reading) carry) where
+module _ (n : ℕ) (l : List ℕ) (m : Desk) (s : Session) (carry : List ℕ) (h : Tells (toldOf n l) m (s .reading) carry) where
   abbrev t : Told
   t = toldOf n l
 
   quiet-shows : (from : ℕ) (out : List ℕ) → Shows (quiet t) m (fresh (s .reading) from) carry out
   quiet-shows from out = record { state = h .state; part = h .part; room = omega arith; text = refl }
 
-  module _ (chunk out : List ℕ) (m′ : MemoryAllocator) (s′ : Session) (carry′ out′ : List ℕ) where
+  module _ (chunk out : List ℕ) (m′ : Desk) (s′ : Session) (carry′ out′ : List ℕ) where
     -- what the turn heard
     abbrev part : List ℕ
     part = between (s .reading .from) (s′ .reading .from) (take (s .count) chunk)
@@ -106,10 +100,10 @@ module _ (n : ℕ) (l : List ℕ) (m : MemoryAllocator) (s : Session) (carry : L
     answered-tells a =
         let w = a .hears .steps .shows (quiet t) (quiet-shows (s .reading .from) out) in
         let e = heard-text n (t .state) (t .part) [] (t .text) part in
-        let f = heard-append n (silent (stateOf n empty)) l part in
+        let f = heard-append n (silent (openDesk n)) l part in
         (record { state = w .state ∙ e .0 ∙ sym (ap (λ (v : Told). v .state) f); part = rw (f, ← e .1) (w .part) }, w .text)
 
-module _ (n : ℕ) (read handed : List ℕ) (m : MemoryAllocator) (s : Session) (carry chunk out : List ℕ) (b : Told-so-far n read handed m s carry chunk) (on : goesOn s ≡ true) where
+module _ (n : ℕ) (read handed : List ℕ) (m : Desk) (s : Session) (carry chunk out : List ℕ) (b : Told-so-far n read handed m s carry chunk) (on : goesOn s ≡ true) where
   abbrev l : List ℕ
   l = b .heard-bytes
 
@@ -119,7 +113,7 @@ module _ (n : ℕ) (read handed : List ℕ) (m : MemoryAllocator) (s : Session) 
   tells-so-far : Tells (toldOf n l) m (s .reading) carry
   tells-so-far = subst (λ (z : Bool). Tells (toldBy n z l) m (s .reading) carry) (going s on) (b .tells)
 
-  module _ (m′ : MemoryAllocator) (s′ : Session) (carry′ chunk′ out′ : List ℕ) where
+  module _ (m′ : Desk) (s′ : Session) (carry′ chunk′ out′ : List ℕ) where
     -- what was told after the turn to s′
     abbrev Next : Type 0
     Next = Told-so-far n (read ++ piece s s′ chunk′) (handed ++ take (s′ .reading .at) out′) m′ s′ carry′ chunk′
@@ -138,7 +132,7 @@ module _ (n : ℕ) (read handed : List ℕ) (m : MemoryAllocator) (s : Session) 
           tells = subst (λ (z : Bool). Tells (toldBy n z (l ++ p)) m′ (s′ .reading) carry′) (sym (a .ended)) (w .0);
           rest = λ e. true-false (sym e ∙ a .ended);
           hands = ap (λ (x : List ℕ). x ++ take (s′ .reading .at) out′) handed-so-far ∙ ap (λ (x : List ℕ). toldOf n l .text ++ x) (w .1) ∙ sym (heard-quiet n (toldOf n l) p)
-              ∙ ap (λ (v : Told). v .text) (sym (heard-append n (silent (stateOf n empty)) l p)) ∙ rw (a .ended);
+              ∙ ap (λ (v : Told). v .text) (sym (heard-append n (silent (openDesk n)) l p)) ∙ rw (a .ended);
         }
 
     none-left : s .count ≤ s .reading .from → read ≡ l
@@ -182,7 +176,7 @@ module _ (n : ℕ) (read handed : List ℕ) (m : MemoryAllocator) (s : Session) 
 
 -- ---- all turns
 
-begins : (n : ℕ) (carry chunk : List ℕ) → Told-so-far n [] [] (stateOf n empty) begin carry chunk
+begins : (n : ℕ) (carry chunk : List ℕ) → Told-so-far n [] [] (openDesk n) begin carry chunk
 unfolding heard
 begins n carry chunk =
     record {
@@ -194,27 +188,27 @@ begins n carry chunk =
     }
 
 -- What was read so far determines, byte by byte, what has been handed to the writer so far.
-pub so-far : (n k : ℕ) (read handed : List ℕ) (m : MemoryAllocator) (s : Session) (carry chunk out : List ℕ) → Run n k read handed m s carry chunk out → Told-so-far n read handed m s carry chunk
+pub so-far : (n k : ℕ) (read handed : List ℕ) (m : Desk) (s : Session) (carry chunk out : List ℕ) → Run n k read handed m s carry chunk out → Told-so-far n read handed m s carry chunk
 so-far n _ _ _ _ _ _ _ _ (starts carry chunk out) = begins n carry chunk
 so-far n _ _ _ _ _ _ _ _ (turns k read handed m s carry chunk out m′ s′ carry′ chunk′ out′ r e w) =
     after-turn n read handed m s carry chunk out (so-far n k read handed m s carry chunk out r) e m′ s′ carry′ chunk′ out′ w
 
--- As long as turns follow, the state is sound.
-pub run-sound : (n : ℕ) → n ≤ none → (k : ℕ) (read handed : List ℕ) (m : MemoryAllocator) (s : Session) (carry chunk out : List ℕ) → Run n k read handed m s carry chunk out → goesOn s ≡ true → SoundState n m
+-- As long as turns follow, the state is sound, in either forms.
+pub run-sound : (n : ℕ) → n ≤ none → (k : ℕ) (read handed : List ℕ) (m : Desk) (s : Session) (carry chunk out : List ℕ) → Run n k read handed m s carry chunk out → goesOn s ≡ true → SoundDesk n m
 run-sound n small k read handed m s carry chunk out r on =
     let b = so-far n k read handed m s carry chunk out r in
     let w = tells-so-far n read handed m s carry chunk out b on in
-    subst (SoundState n) (sym (w .state)) (heard-sound n small (silent (stateOf n empty)) (b .heard-bytes) (sound-held n small empty (empty-sound n)))
+    subst (SoundDesk n) (sym (w .state)) (heard-sound n small (silent (openDesk n)) (b .heard-bytes) (open-sound n small))
 
 -- Once the input has ended, it is the whole output.
-pub all-answered : (n k : ℕ) (read handed : List ℕ) (m : MemoryAllocator) (s : Session) (carry chunk out : List ℕ) → Run n k read handed m s carry chunk out → s .ended ≡ true → handed ≡ outputOf n read
+pub all-answered : (n k : ℕ) (read handed : List ℕ) (m : Desk) (s : Session) (carry chunk out : List ℕ) → Run n k read handed m s carry chunk out → s .ended ≡ true → handed ≡ outputOf n read
 all-answered n k read handed m s carry chunk out r e =
     let b = so-far n k read handed m s carry chunk out r in
     let w : read ≡ b .heard-bytes = b .reads ∙ ap (λ (x : List ℕ). b .heard-bytes ++ x) (b .rest e) ∙ append-nil (b .heard-bytes) in
     b .hands ∙ ap (λ (z : Bool). cond z (outputOf n (b .heard-bytes)) (toldOf n (b .heard-bytes) .text)) e ∙ ap (outputOf n) (sym w)
 
 -- Before, it is a beginning of the output, whatever the rest of the input is.
-pub always-beginning : (n k : ℕ) (read handed : List ℕ) (m : MemoryAllocator) (s : Session) (carry chunk out : List ℕ) → Run n k read handed m s carry chunk out → s .ended ≡ false
+pub always-beginning : (n k : ℕ) (read handed : List ℕ) (m : Desk) (s : Session) (carry chunk out : List ℕ) → Run n k read handed m s carry chunk out → s .ended ≡ false
     → (rest : List ℕ) → (w : List ℕ) × (outputOf n (read ++ rest) ≡ handed ++ w)
 always-beginning n k read handed m s carry chunk out r e rest =
     let b = so-far n k read handed m s carry chunk out r in
@@ -223,7 +217,7 @@ always-beginning n k read handed m s carry chunk out r e rest =
     let t = toldOf n l in
     let u = heard n t p in
     let bytes : read ++ rest ≡ l ++ p = ap (λ (x : List ℕ). x ++ rest) (b .reads) ∙ append-assoc l (left s chunk) rest in
-    let all : toldOf n (read ++ rest) ≡ u = ap (toldOf n) bytes ∙ heard-append n (silent (stateOf n empty)) l p in (
+    let all : toldOf n (read ++ rest) ≡ u = ap (toldOf n) bytes ∙ heard-append n (silent (openDesk n)) l p in (
       heard n (quiet t) p .text ++ textOfAll n (quiet u),
       ap (textOfAll n) all ∙ closed-quiet n u (u .part) ∙ ap (λ (x : List ℕ). x ++ textOfAll n (quiet u)) (heard-quiet n t p) ∙ append-assoc (t .text) (heard n (quiet t) p .text) (textOfAll n (quiet u))
           ∙ ap (λ (x : List ℕ). x ++ (heard n (quiet t) p .text ++ textOfAll n (quiet u))) (sym (b .hands ∙ ap (λ (z : Bool). cond z (outputOf n l) (t .text)) e)),

@@ -6,7 +6,7 @@ use Prim.Native.Nat.{ℕ, _+_, _<_, _≤_}
 use native.Mathlib.Omega.{arith}
 use borrow.Author.Tests.{le-leb}
 use lib.ListN.{length}
-use Rattle.pool_state.specs.declared.MemoryAllocator.{MemoryAllocator}
+use Rattle.script_forms.specs.Forms.{Desk}
 use Rattle.script_answers.specs.Script.{room}
 use Rattle.script_chunks.specs.Input.{kept, Ready}
 use Rattle.script_chunks.specs.declared.Reading.{Reading}
@@ -19,7 +19,7 @@ true-false e = absurd (let z : _≡_ {A = ℕ} 0 1 = cc in let v : ⊥ = omega a
 pub ready-fresh : (n : ℕ) (s : Session) (carry chunk out : List ℕ) (from : ℕ) → Prepared n s carry chunk out → Ready n (fresh (s .reading) from) carry out
 ready-fresh n s carry chunk out from p = let w = p .space in record { carries = p .carries; held = p .held; room = le-leb (0 + room n) (length out) (omega arith) }
 
-module _ (n : ℕ) (m : MemoryAllocator) (s : Session) (carry chunk out : List ℕ) where
+module _ (n : ℕ) (m : Desk) (s : Session) (carry chunk out : List ℕ) where
   module _ (chunk′ out′ : List ℕ) (heard : s .count ≤ s .reading .from) where
     pub took-some : (k : ℕ) → 0 < k → k ≤ length chunk′ → (s′ : Session) → s′ ≡ restart s k false → Turned n m s carry chunk out m s′ carry chunk′ out′
     took-some k h w s′ e = rw e (took heard refl refl (record { reading = refl; within = w; some = λ x. h; none = λ x. true-false (sym x); ended = refl }))
@@ -27,7 +27,7 @@ module _ (n : ℕ) (m : MemoryAllocator) (s : Session) (carry chunk out : List �
     pub took-none : (s′ : Session) → s′ ≡ restart s 0 true → Turned n m s carry chunk out m s′ carry chunk′ out′
     took-none s′ e = rw e (took heard refl refl (record { reading = refl; within = omega arith; some = λ x. true-false x; none = λ x. refl; ended = refl }))
 
-  module _ (p : Prepared n s carry chunk out) (m′ : MemoryAllocator) (s′ : Session) (carry′ chunk′ out′ : List ℕ)
+  module _ (p : Prepared n s carry chunk out) (m′ : Desk) (s′ : Session) (carry′ chunk′ out′ : List ℕ)
       (c : length carry′ ≡ length carry) (d : length chunk′ ≡ length chunk) (e : length out′ ≡ length out) where
     next : s′ .reading .held ≤ length carry → s′ .count ≤ length chunk → Prepared n s′ carry′ chunk′ out′
     next h k =

@@ -1,4 +1,5 @@
 // A session of the script: bytes are read, the lines that they end are answered, and the answers are handed to the writer, turn by turn.
+use holder_words::WORDS;
 use pool_state::LISTS;
 use pool_state::POOL;
 use script_answers::has_room;
@@ -8,7 +9,7 @@ ghost use mathlib.Core.Path.{_≡_};
 ghost use Prim.Native.Nat.{_<_};
 ghost use lib.ListN.{length};
 ghost use Rattle.pool_state.specs.Shown.{pool};
-ghost use Rattle.pool_state.specs.Lent.{HoldsSome};
+ghost use Rattle.script_forms.specs.Forms.{SoundIn};
 ghost use Rattle.script_chunks.specs.Input.{Ready, HearsIn};
 ghost use Rattle.script_sessions.specs.Sessions.{begin, goesOn, fresh, restart};
 
@@ -88,14 +89,16 @@ pub fn answer_part(
     next: &mut [u16; POOL],
     lprev: &mut [u16; POOL],
     lnext: &mut [u16; POOL],
+    forms: &mut u8,
+    words: &mut [u64; WORDS],
     r: Reading,
     carry: &mut [u8],
     chunk: &[u8],
     out: &mut [u8],
 ) -> Reading
-    requires { ⌜ HoldsSome pool total first heads start end enabled previous next lprev lnext ⌝ }
+    requires { ⌜ SoundIn pool forms words total first heads start end enabled previous next lprev lnext ⌝ }
     requires { ⌜ Ready pool r (now carry) (now out) × (r .from < length (now chunk)) ⌝ }
-    ensures { λ r′. ⌜ HearsIn pool r carry chunk out r′ total first heads start end enabled previous next lprev lnext ⌝ }
+    ensures { λ r′. ⌜ HearsIn pool r carry chunk out r′ forms words total first heads start end enabled previous next lprev lnext ⌝ }
 {
     let mut reading = answer_next(
         total,
@@ -108,6 +111,8 @@ pub fn answer_part(
         next,
         lprev,
         lnext,
+        forms,
+        words,
         r,
         carry,
         chunk,
@@ -125,6 +130,8 @@ pub fn answer_part(
             next,
             lprev,
             lnext,
+            forms,
+            words,
             reading,
             carry,
             chunk,

@@ -1,28 +1,42 @@
-use mathlib.Core.Path.{sym, _∙_}
+use mathlib.Core.Path.{_≡_, sym, ap, _∙_}
+use mathlib.Core.Bool.{false}
+use mathlib.Core.List.{List}
+use lib.ListN.{replicate}
+use Rattle.linked_lists.specs.Links.{none}
+use Rattle.rules.specs.Rules.{empty, sizeLists}
 use mathlib.Core.Logic.{inl, inr}
 use native.Mathlib.Omega.{arith}
 use borrow.Author.Tests.{ltb-true, ltb-false}
 use lib.Dec.{lit≤}
 use Rattle.pool_state.specs.Shown.{pool}
-use Rattle.pool_state.specs.State.{arrays}
+use Rattle.pool_state.specs.State.{arrays, stateOf}
+use Rattle.pool_state.specs.declared.MemoryAllocator.{MemoryAllocator}
+use Rattle.holder_rules.specs.Register.{entries}
+use Rattle.holder_rules.specs.declared.Entry.{Entry}
+use Rattle.holder_words.proofs.Fresh.{fresh-words}
+use Rattle.script_forms.specs.Forms.{desk, deskIn, openDesk}
 use Rattle.pool_state.proofs.States.{fresh-state}
-use Rattle.script.proofs.Looping.{Going, going-none, going-holds, going-on, over}
+use Rattle.script.proofs.Looping.{Going, going-none, going-sound, going-on, over}
 use borrow.Author.Needs.{needs}
 use Rattle.script.proofs.answer_all.Statement.{statement}
 use Rattle.script.proofs.answer_all.Tie as tie
 
 abbrev Inv-loop : tie.InvT-loop
-Inv-loop carry₀ chunk₀ out₀ total₀ first₀ heads₀ start₀ end₀ enabled₀ previous₀ next₀ lprev₀ lnext₀ session₀ turns₀ carry chunk out total first heads start end enabled previous next lprev lnext session turns =
-    Going pool carry₀ chunk₀ out₀ (arrays total first heads start end enabled previous next lprev lnext) session carry chunk out turns
+Inv-loop carry₀ chunk₀ out₀ total₀ first₀ heads₀ start₀ end₀ enabled₀ previous₀ next₀ lprev₀ lnext₀ forms₀ words₀ session₀ turns₀ carry chunk out total first heads start end enabled previous next lprev lnext forms words session turns =
+    Going pool carry₀ chunk₀ out₀ (deskIn forms words (arrays total first heads start end enabled previous next lprev lnext)) session carry chunk out turns
 
 abbrev μ-loop : tie.MeasureT-loop
-μ-loop carry₀ chunk₀ out₀ total₀ first₀ heads₀ start₀ end₀ enabled₀ previous₀ next₀ lprev₀ lnext₀ session₀ turns₀ carry chunk out total first heads start end enabled previous next lprev lnext session turns = turns
+μ-loop carry₀ chunk₀ out₀ total₀ first₀ heads₀ start₀ end₀ enabled₀ previous₀ next₀ lprev₀ lnext₀ forms₀ words₀ session₀ turns₀ carry chunk out total first heads start end enabled previous next lprev lnext forms words session turns = turns
+
+-- the twelve locals at first
+fresh-desk : deskIn 0 (replicate 192 0) (arrays 0 none (replicate sizeLists none) (replicate pool 0) (replicate pool 0) (replicate pool false) (replicate pool none) (replicate pool none) (replicate pool none) (replicate pool none)) ≡ openDesk pool
+fresh-desk = ap (λ (m : MemoryAllocator). deskIn 0 (replicate 192 0) m) (fresh-state pool) ∙ ap (λ (r : List Entry). desk 0 (record { memory = stateOf pool empty; register = record { entries = r } })) (fresh-words 192 entries)
 
 begun-requires : tie.Need-begun-requires Inv-loop μ-loop
 begun-requires c κs = search needs
 
 loop-holds : tie.Need-loop-holds Inv-loop μ-loop
-loop-holds c = let start = c .before .before .before .before in going-none pool _ _ _ _ _ (fresh-state pool) (c .begun .ensures) (start .pre .0) (start .pre .1)
+loop-holds c = let start = c .before .before .before .before in going-none pool _ _ _ _ _ fresh-desk (c .begun .ensures) (start .pre .0) (start .pre .1)
 
 goes-on-requires : tie.Need-goes-on-requires Inv-loop μ-loop
 goes-on-requires c κs = search needs
@@ -33,7 +47,7 @@ turn-requires c κs =
     let more = lent .before .before .before .before .before .before in
     let asked = more .before .before in
     let inv = asked .before .loop .inv in
-    (going-holds pool _ _ _ _ _ _ _ _ _ inv (lit≤ tt) (sym (asked .goes-on .ensures) ∙ more .before .if1 .taken), inv .prepared)
+    (going-sound pool _ _ _ _ _ _ _ _ _ inv (lit≤ tt) (sym (asked .goes-on .ensures) ∙ more .before .if1 .taken), inv .prepared)
 
 sub-turns : tie.Need-sub-turns Inv-loop μ-loop
 sub-turns c =

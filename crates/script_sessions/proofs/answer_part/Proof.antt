@@ -5,8 +5,7 @@ use lib.Dec.{lit≤}
 use lib.ListN.{length}
 use Rattle.pool_state.specs.Shown.{pool}
 use Rattle.pool_state.specs.State.{arrays}
-use Rattle.pool_state.specs.Sound.{SoundState}
-use Rattle.pool_state.proofs.Book.{holds-sound, sound-holds}
+use Rattle.script_forms.specs.Forms.{SoundDesk, deskIn}
 use Rattle.script_chunks.specs.Input.{kept}
 use Rattle.script_sessions.proofs.Parts.{Goes, goes-none, goes-on, hears-goes, hears-on, hears-sound, ready-again}
 use borrow.Author.Needs.{needs}
@@ -14,12 +13,12 @@ use Rattle.script_sessions.proofs.answer_part.Statement.{statement}
 use Rattle.script_sessions.proofs.answer_part.Tie as tie
 
 abbrev Inv-loop : tie.InvT-loop
-Inv-loop total₀ first₀ heads₀ start₀ end₀ enabled₀ previous₀ next₀ lprev₀ lnext₀ carry₀ chunk out₀ reading₀ total first heads start end enabled previous next lprev lnext carry out reading =
-    (kept ≤ length carry₀) × SoundState pool (arrays total first heads start end enabled previous next lprev lnext)
-    × Goes pool (arrays total₀ first₀ heads₀ start₀ end₀ enabled₀ previous₀ next₀ lprev₀ lnext₀) reading₀ carry₀ chunk out₀ (arrays total first heads start end enabled previous next lprev lnext) reading carry out
+Inv-loop total₀ first₀ heads₀ start₀ end₀ enabled₀ previous₀ next₀ lprev₀ lnext₀ forms₀ words₀ carry₀ chunk out₀ reading₀ total first heads start end enabled previous next lprev lnext forms words carry out reading =
+    (kept ≤ length carry₀) × SoundDesk pool (deskIn forms words (arrays total first heads start end enabled previous next lprev lnext))
+    × Goes pool (deskIn forms₀ words₀ (arrays total₀ first₀ heads₀ start₀ end₀ enabled₀ previous₀ next₀ lprev₀ lnext₀)) reading₀ carry₀ chunk out₀ (deskIn forms words (arrays total first heads start end enabled previous next lprev lnext)) reading carry out
 
 abbrev μ-loop : tie.MeasureT-loop
-μ-loop total₀ first₀ heads₀ start₀ end₀ enabled₀ previous₀ next₀ lprev₀ lnext₀ carry₀ chunk out₀ reading₀ total first heads start end enabled previous next lprev lnext carry out reading = length chunk - reading .from
+μ-loop total₀ first₀ heads₀ start₀ end₀ enabled₀ previous₀ next₀ lprev₀ lnext₀ forms₀ words₀ carry₀ chunk out₀ reading₀ total first heads start end enabled previous next lprev lnext forms words carry out reading = length chunk - reading .from
 
 answer-next-requires : tie.Need-answer-next-requires Inv-loop μ-loop
 answer-next-requires c κs = let lent = c .before .before .before .before .before .before .before in lent .before .before .before .before .before .before .before .before .pre
@@ -33,10 +32,10 @@ loop-holds c =
     let size = e .steps .size in
     let held = e .steps .held in
     let room = e .steps .room in
-    let same = answered .answer-next .kept .1 .1 .1 .1 .1 .1 .1 .1 .1 .1 .1 .1 .1 .0 in
+    let same = answered .answer-next .kept .1 .1 .1 .1 .1 .1 .1 .1 .1 .1 .1 .1 .1 .1 .1 .0 in
     let carries = start .pre .1 .0 .carries in (
       omega arith,
-      hears-sound pool _ _ _ _ _ _ _ _ _ e (lit≤ tt) (start .pre .1 .0) (holds-sound pool (lit≤ tt) _ _ (start .pre .0 .1)),
+      hears-sound pool _ _ _ _ _ _ _ _ _ e (lit≤ tt) (start .pre .1 .0) (start .pre .0),
       goes-none pool _ _ _ _ _ (omega arith) (omega arith) (e .within),
     )
 
@@ -51,7 +50,7 @@ answer-next-requires-2 c κs =
     let carries = i .0 in
     let size = i .2 .steps .size in
     let held = i .2 .steps .held in
-    ((_, sound-holds pool _ (i .1)), (ready-again pool _ _ _ (omega arith) (omega arith) (sym (roomy .before .has-room .ensures) ∙ roomy .if2 .taken), roomy .before .before .if1 .taken))
+    (i .1, (ready-again pool _ _ _ (omega arith) (omega arith) (sym (roomy .before .has-room .ensures) ∙ roomy .if2 .taken), roomy .before .before .if1 .taken))
 
 loop-less : tie.Need-loop-less Inv-loop μ-loop
 loop-less c =
@@ -72,7 +71,7 @@ loop-again c =
     let e = answered .answer-next2 .ensures in (
       i .0,
       hears-sound pool _ _ _ _ _ _ _ _ _ e (lit≤ tt) (ready-again pool _ _ _ (omega arith) (omega arith) (sym (roomy .before .has-room .ensures) ∙ roomy .if2 .taken)) (i .1),
-      goes-on pool _ _ _ _ _ _ _ _ _ _ _ _ _ (i .2) (hears-goes pool _ _ _ _ _ _ _ _ _ e (answered .answer-next2 .kept .1 .1 .1 .1 .1 .1 .1 .1 .1 .1 .1 .1 .1 .0)),
+      goes-on pool _ _ _ _ _ _ _ _ _ _ _ _ _ (i .2) (hears-goes pool _ _ _ _ _ _ _ _ _ e (answered .answer-next2 .kept .1 .1 .1 .1 .1 .1 .1 .1 .1 .1 .1 .1 .1 .1 .1 .0)),
     )
 
 same-length : tie.Need-same-length Inv-loop μ-loop
@@ -85,13 +84,13 @@ same-length-2 : tie.Need-same-length-2 Inv-loop μ-loop
 same-length-2 c =
     let l = c .before .before .before .before in
     let first = l .before .before .before .before .before in
-    l .loop .inv .2 .out-size ∙ first .answer-next .kept .1 .1 .1 .1 .1 .1 .1 .1 .1 .1 .1 .1 .1 .0
+    l .loop .inv .2 .out-size ∙ first .answer-next .kept .1 .1 .1 .1 .1 .1 .1 .1 .1 .1 .1 .1 .1 .1 .1 .0
 
 returns : tie.Need-returns Inv-loop μ-loop
 returns c =
     let l = c .before .before .before .before in
     let first = l .before .before .before .before .before in
-    hears-on pool _ _ _ _ _ _ _ _ _ _ _ _ _ (first .answer-next .ensures) (first .answer-next .kept .1 .1 .1 .1 .1 .1 .1 .1 .1 .1 .1 .1 .1 .0) (l .loop .inv .2)
+    hears-on pool _ _ _ _ _ _ _ _ _ _ _ _ _ (first .answer-next .ensures) (first .answer-next .kept .1 .1 .1 .1 .1 .1 .1 .1 .1 .1 .1 .1 .1 .1 .1 .0) (l .loop .inv .2)
 
 same-length-3 : tie.Need-same-length-3 Inv-loop μ-loop
 same-length-3 c =
@@ -103,13 +102,13 @@ same-length-4 : tie.Need-same-length-4 Inv-loop μ-loop
 same-length-4 c =
     let l = c .before .before in
     let first = l .before .before .before .before .before in
-    l .loop .inv .2 .out-size ∙ first .answer-next .kept .1 .1 .1 .1 .1 .1 .1 .1 .1 .1 .1 .1 .1 .0
+    l .loop .inv .2 .out-size ∙ first .answer-next .kept .1 .1 .1 .1 .1 .1 .1 .1 .1 .1 .1 .1 .1 .1 .1 .0
 
 returns-2 : tie.Need-returns-2 Inv-loop μ-loop
 returns-2 c =
     let l = c .before .before in
     let first = l .before .before .before .before .before in
-    hears-on pool _ _ _ _ _ _ _ _ _ _ _ _ _ (first .answer-next .ensures) (first .answer-next .kept .1 .1 .1 .1 .1 .1 .1 .1 .1 .1 .1 .1 .1 .0) (l .loop .inv .2)
+    hears-on pool _ _ _ _ _ _ _ _ _ _ _ _ _ (first .answer-next .ensures) (first .answer-next .kept .1 .1 .1 .1 .1 .1 .1 .1 .1 .1 .1 .1 .1 .1 .1 .0) (l .loop .inv .2)
 
 pub answer-part-spec : {M : Type 1} → statement M
 answer-part-spec =
