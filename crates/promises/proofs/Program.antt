@@ -3,14 +3,14 @@ use Prim.Native.Nat.{ℕ}
 use mathlib.Core.List.{List}
 use mathlib.Core.Path.{_≡_, sym, ap, _∙_, subst}
 use lib.ListN.{length, take}
-use Rattle.pool_state.specs.declared.MemoryAllocator.{MemoryAllocator}
+use Rattle.script_forms.specs.Forms.{Desk}
 use Rattle.script_chunks.specs.Input.{Told, heard, between, Shows, Hears}
 use Rattle.script_chunks.specs.declared.Reading.{Reading}
 use Rattle.script_sessions.proofs.Books.{all-answered}
 use Rattle.promises.specs.Program.{Alike, ProgramDetermined}
 
 -- two readings that show one thing, in carries of one length
-shown-alike : (t : Told) (m : MemoryAllocator) (x : Reading) (carry out : List ℕ) (m′ : MemoryAllocator) (y : Reading) (carry′ out′ : List ℕ) → length carry ≡ length carry′
+shown-alike : (t : Told) (m : Desk) (x : Reading) (carry out : List ℕ) (m′ : Desk) (y : Reading) (carry′ out′ : List ℕ) → length carry ≡ length carry′
     → Shows t m x carry out → Shows t m′ y carry′ out′ → Alike m x carry out m′ y carry′ out′
 shown-alike t m x carry out m′ y carry′ out′ e h k = record {
   state = h .state ∙ sym (k .state);
@@ -18,12 +18,12 @@ shown-alike t m x carry out m′ y carry′ out′ e h k = record {
   text = h .text ∙ sym (k .text);
 }
 
-module _ (n : ℕ) (t : Told) (m : MemoryAllocator) (r : Reading) (carry chunk out : List ℕ) (shows : Shows t m r carry out) where
+module _ (n : ℕ) (t : Told) (m : Desk) (r : Reading) (carry chunk out : List ℕ) (shows : Shows t m r carry out) where
   -- what hearing up to the place i comes to
   abbrev upTo : ℕ → Told
   upTo i = heard n t (between (r .from) i chunk)
 
-  same-place : (m′ : MemoryAllocator) (x : Reading) (carry′ out′ : List ℕ) (m″ : MemoryAllocator) (y : Reading) (carry″ out″ : List ℕ)
+  same-place : (m′ : Desk) (x : Reading) (carry′ out′ : List ℕ) (m″ : Desk) (y : Reading) (carry″ out″ : List ℕ)
       → Hears n m r carry chunk out m′ x carry′ out′ → Hears n m r carry chunk out m″ y carry″ out″ → x .from ≡ y .from → Alike m′ x carry′ out′ m″ y carry″ out″
   same-place m′ x carry′ out′ m″ y carry″ out″ h k e =
       shown-alike (upTo (y .from)) m′ x carry′ out′ m″ y carry″ out″ (h .steps .size ∙ sym (k .steps .size))

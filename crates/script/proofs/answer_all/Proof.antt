@@ -44,7 +44,7 @@ goes-on-requires c κs = search needs
 turn-requires : tie.Need-turn-requires Inv-loop μ-loop
 turn-requires c κs =
     let lent = c .before .before .before .before .before .before .before in
-    let more = lent .before .before .before .before .before .before in
+    let more = lent .before .before .before .before .before .before .before .before in
     let asked = more .before .before in
     let inv = asked .before .loop .inv in
     (going-sound pool _ _ _ _ _ _ _ _ _ inv (lit≤ tt) (sym (asked .goes-on .ensures) ∙ more .before .if1 .taken), inv .prepared)
@@ -53,26 +53,26 @@ sub-turns : tie.Need-sub-turns Inv-loop μ-loop
 sub-turns c =
     let turned = c .before .before .before .before .before .before in
     let lent = turned .before .before .before .before .before .before .before in
-    let more = lent .before .before .before .before .before .before .before in
+    let more = lent .before .before .before .before .before .before .before .before .before in
     omega (arith, ltb-true 0 (more .before .before .before .loop .turns) (more .if2 .taken))
 
 loop-less : tie.Need-loop-less Inv-loop μ-loop
 loop-less c =
     let turned = c .before .before .before .before .before .before in
     let lent = turned .before .before .before .before .before .before .before in
-    let more = lent .before .before .before .before .before .before .before in
+    let more = lent .before .before .before .before .before .before .before .before .before in
     omega (arith, ltb-true 0 (more .before .before .before .loop .turns) (more .if2 .taken))
 
 loop-again : tie.Need-loop-again Inv-loop μ-loop
 loop-again c =
     let turned = c .before .before .before .before .before .before in
     let lent = turned .before .before .before .before .before .before .before in
-    let more = lent .before .before .before .before .before .before .before in
+    let more = lent .before .before .before .before .before .before .before .before .before in
     let asked = more .before .before in
     going-on pool _ _ _ _ _ _ _ _ _ (asked .before .loop .inv) _ _ _ _ _ (sym (asked .goes-on .ensures) ∙ more .before .if1 .taken) (ltb-true 0 _ (more .if2 .taken))
-    (turned .turn .kept .1 .1 .1 .1 .1 .1 .1 .1 .1 .1 .1 .0)
-    (turned .turn .kept .1 .1 .1 .1 .1 .1 .1 .1 .1 .1 .1 .1 .0)
     (turned .turn .kept .1 .1 .1 .1 .1 .1 .1 .1 .1 .1 .1 .1 .1 .0)
+    (turned .turn .kept .1 .1 .1 .1 .1 .1 .1 .1 .1 .1 .1 .1 .1 .1 .0)
+    (turned .turn .kept .1 .1 .1 .1 .1 .1 .1 .1 .1 .1 .1 .1 .1 .1 .1 .0)
     (turned .turn .ensures)
 
 same-length : tie.Need-same-length Inv-loop μ-loop

@@ -14,13 +14,13 @@ afresh-requires c κs = search needs
 slice-aggregate-answer-part : tie.Need-slice-aggregate-answer-part
 slice-aggregate-answer-part c =
     let lent = c .before .before .before .before .before .before .before .before in
-    let renewed = lent .before .before .before .before in
+    let renewed = lent .before .before .before .before .before .before in
     sym (length-take-le _ _ (renewed .before .before .before .before .before .pre .1 .0 .count))
 
 answer-part-requires : tie.Need-answer-part-requires
 answer-part-requires c κs =
     let lent = c .before .before .before .before .before .before .before in
-    let renewed = lent .before .before .before .before .before .before in
+    let renewed = lent .before .before .before .before .before .before .before .before in
     let start = renewed .before .before .before .before .before in
     let p = start .pre .1 .0 in (
       start .pre .0,
@@ -31,20 +31,20 @@ hand-over-requires : tie.Need-hand-over-requires
 hand-over-requires c κs =
     let answered = c .before .before .before .before .before in
     let room = answered .answer-part .ensures .steps .room in
-    let same = answered .answer-part .kept .1 .1 .1 .1 .1 .1 .1 .1 .1 .1 .1 .1 .1 .0 in
+    let same = answered .answer-part .kept .1 .1 .1 .1 .1 .1 .1 .1 .1 .1 .1 .1 .1 .1 .1 .0 in
     omega arith
 
 same-length : tie.Need-same-length
 same-length c = c .before .before .before .before .before .before .answer-part .ensures .steps .size
 
 same-length-2 : tie.Need-same-length-2
-same-length-2 c = c .before .before .before .before .before .before .answer-part .kept .1 .1 .1 .1 .1 .1 .1 .1 .1 .1 .1 .1 .1 .0
+same-length-2 c = c .before .before .before .before .before .before .answer-part .kept .1 .1 .1 .1 .1 .1 .1 .1 .1 .1 .1 .1 .1 .1 .1 .0
 
 returns : tie.Need-returns
 returns c =
     let answered = c .before .before .before .before .before .before in
     let lent = answered .before .before .before .before .before .before .before in
-    let renewed = lent .before .before .before .before .before .before .before in
+    let renewed = lent .before .before .before .before .before .before .before .before .before in
     answered-by pool _ _ _ _ _ _ _ _ _ _ _ (renewed .afresh .ensures) (answered .answer-part .ensures) (c .hand-over .ensures)
 
 pub answer-more-spec : {M : Type 1} → statement M

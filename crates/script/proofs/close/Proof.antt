@@ -11,7 +11,7 @@ afresh-requires c κs = search needs
 answer-last-requires : tie.Need-answer-last-requires
 answer-last-requires c κs =
     let lent = c .before .before .before .before .before .before in
-    let renewed = lent .before .before .before .before .before in
+    let renewed = lent .before .before .before .before .before .before .before in
     let start = renewed .before .before .before .before in
     (start .pre .0, rw (renewed .afresh .ensures) (start .pre .1))
 
@@ -19,17 +19,17 @@ hand-over-requires : tie.Need-hand-over-requires
 hand-over-requires c κs =
     let answered = c .before .before .before in
     let room = answered .answer-last .ensures .room in
-    let same = answered .answer-last .kept .1 .1 .1 .1 .1 .1 .1 .1 .1 .1 .1 .1 .0 in
+    let same = answered .answer-last .kept .1 .1 .1 .1 .1 .1 .1 .1 .1 .1 .1 .1 .1 .1 .0 in
     omega arith
 
 same-length : tie.Need-same-length
-same-length c = c .before .before .before .before .answer-last .kept .1 .1 .1 .1 .1 .1 .1 .1 .1 .1 .1 .1 .0
+same-length c = c .before .before .before .before .answer-last .kept .1 .1 .1 .1 .1 .1 .1 .1 .1 .1 .1 .1 .1 .1 .0
 
 returns : tie.Need-returns
 returns c =
     let answered = c .before .before .before .before in
     let lent = answered .before .before .before .before .before .before in
-    let renewed = lent .before .before .before .before .before .before in
+    let renewed = lent .before .before .before .before .before .before .before .before in
     closed-by pool _ _ _ _ _ _ _ _ _ (renewed .afresh .ensures) (answered .answer-last .ensures) (c .hand-over .ensures)
 
 pub close-spec : {M : Type 1} → statement M

@@ -10,7 +10,7 @@ use Rattle.script.proofs.turn.Tie as tie
 answer-more-requires : tie.Need-answer-more-requires
 answer-more-requires c κs =
     let lent = c .before .before .before .before .before .before .before in
-    let more = lent .before .before .before .before .before .before in
+    let more = lent .before .before .before .before .before .before .before .before in
     let start = more .before .before .before .before .before .before .before in
     (start .pre .0, (start .pre .1, more .if1 .taken))
 
@@ -21,13 +21,13 @@ same-length-2 : tie.Need-same-length-2
 same-length-2 c = refl
 
 same-length-3 : tie.Need-same-length-3
-same-length-3 c = c .before .before .before .before .answer-more .kept .1 .1 .1 .1 .1 .1 .1 .1 .1 .1 .1 .1 .1 .0
+same-length-3 c = c .before .before .before .before .answer-more .kept .1 .1 .1 .1 .1 .1 .1 .1 .1 .1 .1 .1 .1 .1 .1 .0
 
 returns : tie.Need-returns
 returns c =
     let told = c .before .before .before .before in
     let lent = told .before .before .before .before .before .before .before in
-    answered (lent .before .before .before .before .before .before .before .if1 .taken) refl (told .answer-more .ensures)
+    answered (lent .before .before .before .before .before .before .before .before .before .if1 .taken) refl (told .answer-more .ensures)
 
 slice-aggregate-read-some : tie.Need-slice-aggregate-read-some
 slice-aggregate-read-some c = search needs
@@ -47,7 +47,7 @@ returns-2 c = took-none pool _ _ _ _ _ _ _ (c .before .before .before .before .b
 close-requires : tie.Need-close-requires
 close-requires c κs =
     let lent = c .before .before .before .before .before .before in
-    let none = lent .before .before .before .before .before .before in
+    let none = lent .before .before .before .before .before .before .before .before in
     let read = none .before .before .before .before .before .before .before in
     let start = read .before .before .before .before .before .before .before in
     (start .pre .0, ready-fresh pool _ _ _ _ _ (start .pre .1))
@@ -59,13 +59,13 @@ same-length-6 : tie.Need-same-length-6
 same-length-6 c = search needs
 
 same-length-7 : tie.Need-same-length-7
-same-length-7 c = c .before .before .close .kept .1 .1 .1 .1 .1 .1 .1 .1 .1 .1 .1 .1 .0
+same-length-7 c = c .before .before .close .kept .1 .1 .1 .1 .1 .1 .1 .1 .1 .1 .1 .1 .1 .1 .0
 
 returns-3 : tie.Need-returns-3
 returns-3 c =
     let told = c .before .before in
     let lent = told .before .before .before .before .before .before in
-    let none = lent .before .before .before .before .before .before .before in
+    let none = lent .before .before .before .before .before .before .before .before .before in
     closed (none .before .before .before .before .before .before .before .if1 .left) refl (told .close .ensures)
 
 restarted-requires-2 : tie.Need-restarted-requires-2

@@ -18,7 +18,7 @@ enum-known-stop c = search needs
 answer-ended-requires : tie.Need-answer-ended-requires
 answer-ended-requires c κs =
     let lent = c .before .before .before .before .before .before .before in
-    let found = lent .before .before .before .before .before .before in
+    let found = lent .before .before .before .before .before .before .before .before in
     let start = found .before .before .before .before .before .before in
     let h = start .pre .1 .1 in
     let w = end-within pool (start .args .chunk .now) _ _ (omega arith) (sym (found .stop .given .1) ∙ found .before .before .find-newline .ensures) in
@@ -40,7 +40,7 @@ returns : tie.Need-returns
 returns c =
     let ended = c .before .before .before .before in
     let lent = ended .before .before .before .before .before .before .before in
-    let found = lent .before .before .before .before .before .before .before in
+    let found = lent .before .before .before .before .before .before .before .before .before in
     let start = found .before .before .before .before .before .before in
     let h = start .pre .1 .1 in
     let e = sym (found .stop .given .1) ∙ found .before .before .find-newline .ensures in

@@ -21,13 +21,13 @@ abbrev μ-loop : tie.MeasureT-loop
 μ-loop total₀ first₀ heads₀ start₀ end₀ enabled₀ previous₀ next₀ lprev₀ lnext₀ forms₀ words₀ carry₀ chunk out₀ reading₀ total first heads start end enabled previous next lprev lnext forms words carry out reading = length chunk - reading .from
 
 answer-next-requires : tie.Need-answer-next-requires Inv-loop μ-loop
-answer-next-requires c κs = let lent = c .before .before .before .before .before .before .before in lent .before .before .before .before .before .before .before .before .pre
+answer-next-requires c κs = let lent = c .before .before .before .before .before .before .before in lent .before .before .before .before .before .before .before .before .before .before .pre
 
 loop-holds : tie.Need-loop-holds Inv-loop μ-loop
 loop-holds c =
     let answered = c .before .before .before .before in
     let lent = answered .before .before .before .before .before .before .before .before in
-    let start = lent .before .before .before .before .before .before .before .before in
+    let start = lent .before .before .before .before .before .before .before .before .before .before in
     let e = answered .answer-next .ensures in
     let size = e .steps .size in
     let held = e .steps .held in
@@ -45,7 +45,7 @@ has-room-requires c κs = search needs
 answer-next-requires-2 : tie.Need-answer-next-requires-2 Inv-loop μ-loop
 answer-next-requires-2 c κs =
     let lent = c .before .before .before .before .before .before in
-    let roomy = lent .before .before .before .before .before .before in
+    let roomy = lent .before .before .before .before .before .before .before .before in
     let i = roomy .before .before .before .before .loop .inv in
     let carries = i .0 in
     let size = i .2 .steps .size in
@@ -63,7 +63,7 @@ loop-again : tie.Need-loop-again Inv-loop μ-loop
 loop-again c =
     let answered = c .before .before .before .before in
     let lent = answered .before .before .before .before .before .before in
-    let roomy = lent .before .before .before .before .before .before .before in
+    let roomy = lent .before .before .before .before .before .before .before .before .before in
     let i = roomy .before .before .before .before .loop .inv in
     let carries = i .0 in
     let size = i .2 .steps .size in
