@@ -12,7 +12,7 @@ FUNCTION = r"\n *(?:pub )?(?:extern \"C\" )?fn {}\((.*?)\)([^(){{}}]*?)\n *((?:r
 EQUATION = re.compile(r"ensures \{ λ (\S+)\. ⌜ (?:(\S+)|now \((\w+) \.exit\)|is (\w+)) ≡ ")
 WHOLE = re.compile(r"ensures \{ λ _\. ⌜ turns \(λ s s′\. s′ ≡ ")  # of the ten fields
 HEAD = re.compile(r"(?:⌜|λ s s′\.) (\w\w+) ")
-LENT = {"Judges": "Judged", "ServedIn": "Served", "AnswersIn": "Answers"}  # the same of ten lent fields
+LENT = {"Judges": "Judged", "ServedIn": "Served", "AnswersIn": "Answers", "HolderSaysIn": "HolderSays", "RepliesIn": "Replies"}  # the same of ten lent fields
 
 
 def sentences(project):

@@ -57,6 +57,8 @@ each-determined = record {
       one _ (record { index = w .auditing .index; used = w .used; stop = w .stop }, w .auditing .state)
       (λ x h. (λ i. (record { index = h i .auditing .index; used = h i .used; stop = h i .stop }, h i .auditing .state)));
   line-answered = λ n s l out at. one _ _ (λ x h. (λ i. (h .state i, h .next i, h .bytes i)));
+  holder-answered = λ n s l out at. one _ _ (λ x h. (λ i. (h .state i, h .text .puts .next i, h .text .puts .bytes i)));
+  any-answered = λ n d l out at. one _ _ (λ x h. (λ i. (h .left i, h .text .puts .next i, h .text .puts .bytes i)));
   mapped = λ w. one _ (w .number, w .bytes, w .words) (λ x h. (λ i. (h i .number, h i .bytes, h i .words)));
   pages-asked = λ w. one _ (w .enough, w .bytes) (λ x h. (λ i. (h i .enough, h i .bytes)));
   words-stored = λ w. one _ (w .arena, w .bytes) (λ x h. (λ i. (h i .arena, h i .bytes)));

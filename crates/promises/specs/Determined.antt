@@ -33,6 +33,9 @@ use Rattle.script_texts.specs.Answers.{Puts}
 use Rattle.script_lines.specs.declared.parse.Line.{Line}
 use Rattle.script_replies.specs.Replies.{PutsWithin}
 use Rattle.script_answers.specs.Script.{Answers}
+use Rattle.holder_lines.specs.declared.HolderLine.{HolderLine}
+use Rattle.holder_answers.specs.Answers.{HolderSays}
+use Rattle.script_forms.specs.Forms.{Desk, Replies}
 use Rattle.mapper_marks.specs.Marking as marks
 use Rattle.mapper_pages.specs.Pages.{Supply, supply}
 use Rattle.mapper_stores.specs.Stores.{Held, held}
@@ -76,6 +79,9 @@ pub record EachDetermined : Type 1 where
   pub part-audited : (w : Audited) → Determined (λ (x : Stand × MemoryAllocator). audited (x .1) (x .0) ≡ w)
   -- a line of the script: the state, the next place, and every byte of the output
   pub line-answered : (n : ℕ) (s : MemoryAllocator) (l : Line) (out : List ℕ) (at : ℕ) → Determined (λ (x : MemoryAllocator × ℕ × List ℕ). Answers n s l out at (x .0) (x .1) (x .2))
+  -- a line in the register's forms, and in either
+  pub holder-answered : (n : ℕ) (s : HolderAllocator) (l : HolderLine) (out : List ℕ) (at : ℕ) → Determined (λ (x : HolderAllocator × ℕ × List ℕ). HolderSays n s l out at (x .0) (x .1) (x .2))
+  pub any-answered : (n : ℕ) (d : Desk) (l out : List ℕ) (at : ℕ) → Determined (λ (x : Desk × ℕ × List ℕ). Replies n d l out at (x .0) (x .1) (x .2))
   -- a mapping: the number, every byte of the image and every word of the arena; and its passes
   pub mapped : (w : maps.Left) → Determined (λ (x : ℤ × List ℕ × List ℕ). maps.left (x .0) (x .1) (x .2) ≡ w)
   pub pages-asked : (w : Supply) → Determined (λ (x : Bool × List ℕ). supply (x .0) (x .1) ≡ w)
