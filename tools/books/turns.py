@@ -19,6 +19,9 @@ class Unanswered(Exception):
 def by_program(held, program=PROGRAM):
     """The proved program's answers, at last to a listing in a line of its own behind the others. An empty line is `bad` to it."""
     number, file = 0, held.lines("l\n")
+    with _again(held) as lines:
+        if next(lines, "") == "holders\n":
+            raise Unanswered("the first line begins the forms of the register, which the books do not know")
     with subprocess.Popen(program, stdin=file, stdout=subprocess.PIPE, encoding="latin-1") as running, _again(held) as lines:
         answered = _printed(running.stdout)
         for number, (line, answer) in enumerate(zip(lines, answered), 1):

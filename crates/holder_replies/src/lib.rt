@@ -11,6 +11,7 @@ use script_texts::put_range;
 ghost use mathlib.Core.Path.{_≡_};
 ghost use Prim.Native.Nat.{_+_, _*_, _≤_};
 ghost use lib.ListN.{length};
+ghost use Rattle.pool_state.specs.Lent.{was, is};
 ghost use Rattle.holder_rules.specs.Register.{entries};
 ghost use Rattle.script_replies.specs.Replies.{line, PutsWithin};
 ghost use Rattle.holder_replies.specs.Replies.{belowOf, holderReply, row, headText, rowText, heldTable};
@@ -36,7 +37,7 @@ pub fn put_holder_reply(
     out: &mut [u8],
     at: usize,
 ) -> usize
-    ensures { λ r. ⌜ PutsWithin line (holderReply request answer) (now (out .entry)) at (now (out .exit)) r ⌝ }
+    ensures { λ r. ⌜ PutsWithin line (holderReply request answer) (was out) at (is out) r ⌝ }
 {
     match answer {
         HolderAnswer::Memory(k) => put_reply(request_below(request), k, out, at),
@@ -48,7 +49,7 @@ pub fn put_holder_reply(
 // How many ranges, and how many bytes.
 fn put_head(out: &mut [u8], at: usize, count: u64, bytes: u64) -> usize
     requires { ⌜ at + row ≤ length (now out) ⌝ }
-    ensures { λ r. ⌜ PutsWithin row (headText count bytes) (now (out .entry)) at (now (out .exit)) r ⌝ }
+    ensures { λ r. ⌜ PutsWithin row (headText count bytes) (was out) at (is out) r ⌝ }
 {
     let next = put_bytes(out, at, b"held ");
     put_range(out, next, count, bytes)
@@ -57,7 +58,7 @@ fn put_head(out: &mut [u8], at: usize, count: u64, bytes: u64) -> usize
 // A holder's range.
 fn put_row(out: &mut [u8], at: usize, holder: u64, start: u64, last: u64) -> usize
     requires { ⌜ at + row ≤ length (now out) ⌝ }
-    ensures { λ r. ⌜ PutsWithin row (rowText holder start last) (now (out .entry)) at (now (out .exit)) r ⌝ }
+    ensures { λ r. ⌜ PutsWithin row (rowText holder start last) (was out) at (is out) r ⌝ }
 {
     let gap = put_number(out, at, holder);
     let next = put_bytes(out, gap, b" ");
@@ -75,7 +76,7 @@ pub fn put_held(
     bytes: u64,
 ) -> usize
     requires { ⌜ (count ≤ entries) × (at + row * (count + 1) ≤ length (now out)) ⌝ }
-    ensures { λ r. ⌜ PutsWithin (row * (count + 1)) (heldTable count bytes (now (holders .entry)) (now (starts .entry)) (now (lasts .entry))) (now (out .entry)) at (now (out .exit)) r ⌝ }
+    ensures { λ r. ⌜ PutsWithin (row * (count + 1)) (heldTable count bytes (was holders) (was starts) (was lasts)) (was out) at (is out) r ⌝ }
 {
     let mut next = put_head(out, at, count, bytes);
     let mut i = 0;

@@ -17,7 +17,7 @@ enum-told : tie.Need-enum-told
 enum-told c = search needs
 
 returns : tie.Need-returns
-returns c = 
+returns c =
     let s = c .before .before .before .before in
     sym (none-read said Bad (s .args .letter) (s .args .line .now) (s .args .at) (sym (c .before .before .field-at .ensures) ∙ c .enum-told .given .1))
 
@@ -25,7 +25,7 @@ with-one-requires : tie.Need-with-one-requires
 with-one-requires c κs = search needs
 
 returns-2 : tie.Need-returns-2
-returns-2 c = 
+returns-2 c =
     let a = c .before .before .before in
     let s = a .before .before .before .before in
     c .with-one .ensures ∙ sym
@@ -44,7 +44,7 @@ enum-told-2 : tie.Need-enum-told-2
 enum-told-2 c = search needs
 
 returns-3 : tie.Need-returns-3
-returns-3 c = 
+returns-3 c =
     let a = c .before .before .before .before .before in
     let s = a .before .before .before .before in
     sym (one-read said Bad (s .args .letter) (s .args .line .now) (s .args .at) _ _ (sym (a .before .before .field-at .ensures) ∙ a .x .given .1) (c .before .before .before .if1 .left) (sym (c .before .before .field-at2 .ensures) ∙ c .enum-told2 .given .1))
@@ -53,7 +53,7 @@ with-two-requires : tie.Need-with-two-requires
 with-two-requires c κs = search needs
 
 returns-4 : tie.Need-returns-4
-returns-4 c = 
+returns-4 c =
     let b = c .before .before .before in
     let a = b .before .before .before .before .before in
     let s = a .before .before .before .before in
@@ -73,7 +73,7 @@ enum-told-3 : tie.Need-enum-told-3
 enum-told-3 c = search needs
 
 returns-5 : tie.Need-returns-5
-returns-5 c = 
+returns-5 c =
     let b = c .before .before .before .before .before in
     let a = b .before .before .before .before .before in
     let s = a .before .before .before .before in
@@ -83,7 +83,7 @@ with-three-requires : tie.Need-with-three-requires
 with-three-requires c κs = search needs
 
 returns-6 : tie.Need-returns-6
-returns-6 c = 
+returns-6 c =
     let d = c .before .before .before in
     let b = d .before .before .before .before .before in
     let a = b .before .before .before .before .before in
@@ -104,7 +104,7 @@ enum-told-4 : tie.Need-enum-told-4
 enum-told-4 c = search needs
 
 returns-7 : tie.Need-returns-7
-returns-7 c = 
+returns-7 c =
     let d = c .before .before .before .before .before in
     let b = d .before .before .before .before .before in
     let a = b .before .before .before .before .before in
@@ -115,7 +115,7 @@ with-four-requires : tie.Need-with-four-requires
 with-four-requires c κs = search needs
 
 returns-8 : tie.Need-returns-8
-returns-8 c = 
+returns-8 c =
     let e = c .before .before .before in
     let d = e .before .before .before .before .before in
     let b = d .before .before .before .before .before in
@@ -126,7 +126,7 @@ returns-8 c =
 
 returns-9 : tie.Need-returns-9
 unfolding said
-returns-9 c = 
+returns-9 c =
     let e = c .before .before in
     let d = e .before .before .before .before .before in
     let b = d .before .before .before .before .before in
