@@ -15,17 +15,18 @@
  *   No two calls over the same image run at the same time: the library takes no lock. Calls over different images
  *   may run side by side.
  *   Nothing is owed about the contents or about the numbers: every call ends with one of the answers below.
- *   A call takes less than 8192 bytes of stack, most of it for the fields of the state while it is served; tests/guide measures it. A map takes more: it
- *   tries its pages on a copy of the image.
+ *   A call takes less than 8192 bytes of stack, most of it for the fields of the state while it is served; tests/guide measures it. A map takes less than 24576:
+ *   besides the fields it has the free ranges and marks of pages, and a copy of the image on which it tries its pages.
  *
  * The answer
  *   0 or more: accepted. It is the address for cinghjalofa_allocate and cinghjalofa_allocate_pages, the number of ranges for
  *   cinghjalofa_listing, and 0 for the others. A list of calls has an answer of its own, and one for each of its calls.
  *   Below 0: refused, for the first reason that applies in the order in which each function lists them. A refusal
  *   changes no byte of the image. No call writes outside the image and, of a list, the
- *   places of its calls.
+ *   places of its calls, of a map the arena.
  *   A slice of another length is refused with -2 before anything else, and before a byte of it is read. An image that
- *   no sound allocator writes (damaged, or of another version, an older one too) is refused with -2 before a bad request is with -4.
+ *   no sound allocator writes (damaged, or of another version, an older one too) is refused with -2 before a bad request is with -4;
+ *   only a map looks at its numbers first.
  *
  * Addresses run from 0 to 2^63-1 and sizes count bytes. An alignment order n, 0 to 63, means a multiple of 2^n. There
  * are 256 records, one for each free range. The total is the number of free bytes. Sums are mathematical, never wrapped.

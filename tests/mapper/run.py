@@ -24,7 +24,22 @@ from machine import Failed, existing, machines
 
 WHOLE_MAPS = 10000
 BOUNDED_MAPS = 500
+MODULES = ("paging", "registers", "memory_allocator")
 NOT_RUN = "*** THE COMPARISON WAS NOT RUN: no src/paging.rs in {}; MINIVISOR_SRC may name its folder ***"
+
+# The ports broken on purpose (driver/broken.rs), and the programs that must notice.
+BOTH = ("refusals", "beside")
+BROKEN = {
+    "one-too-many": ("an entry too many is mapped", BOTH),
+    "one-too-few": ("the last page of the range is not mapped", BOTH),
+    "want-half-way": ("the first table is written before the want of the last is known", BOTH),
+    "fresh-uncleared": ("a fresh table is not cleared", BOTH),
+    "block-overwritten": ("a block in the way gives way to a table", BOTH),
+    "exchanged": ("readable and writable are exchanged", BOTH),
+    "image-before-numbers": ("a damaged image comes before the numbers", ("refusals",)),
+    "table-without-af": ("the word of a table has no AF", ("beside",)),
+    "page-lost": ("a page more is taken than is wanted", ("beside",)),
+}
 
 
 def module(name):
@@ -39,32 +54,52 @@ def build(machine, name, words, inputs):
     return machine.rustc(machine.folder("mapper") / name, words, [*sorted((HERE / "driver").glob("*.rs")), linked, *inputs])
 
 
-def build_original(machine, paging, registers):
-    """The crate `stage2`: both modules where they are, untouched, over the mocks that the driver hands them."""
+def build_original(machine, modules):
+    """The crate `stage2`: the modules where they are, untouched, over the mocks that the driver hands them."""
     root = machine.folder("mapper") / "stage2.rs"
-    paths = "".join(f"#[path = {json.dumps(str(path))}]\npub mod {path.stem};\n" for path in (paging, registers))
+    paths = "".join(f"#[path = {json.dumps(str(path))}]\npub mod {path.stem};\n" for path in modules)
     root.write_text((HERE / "driver" / "mocks.rs").read_text() + paths)
     words = ["--crate-type", "rlib", "--crate-name", "stage2", "--cap-lints", "allow", root]
-    return machine.rustc(machine.folder("mapper") / "libstage2.rlib", words, [root, paging, registers])
+    return machine.rustc(machine.folder("mapper") / "libstage2.rlib", words, [root, *modules])
 
 
-def run(machine, program, *words):
-    code = subprocess.run(machine.command(program, *words)).returncode
+def programs(machine):
+    """The command line of each program, by name."""
+    found = {"refusals": machine.command(build(machine, "refusals", [], []))}
+    modules = [module(name) for name in MODULES]
+    if all(modules):
+        library = build_original(machine, modules)
+        program = build(machine, "beside", ["--extern", f"stage2={library}"], [library])
+        found["beside"] = machine.command(program, WHOLE_MAPS if machine.is_whole else BOUNDED_MAPS)
+    else:
+        print(NOT_RUN.format(original.folder()))
+    return found
+
+
+def run(name, words):
+    code = subprocess.run(words).returncode
     if code < 0:
-        print(f"{program.name}: ended by signal {-code}")
+        print(f"{name}: ended by signal {-code}")
     return code == 0
 
 
+def run_broken(known):
+    """Whether each port broken on purpose is noticed: a program that notices says what is wrong and ends with 1."""
+    missed = 0
+    for mistake, (meaning, wanted) in BROKEN.items():
+        tried = [name for name in wanted if name in known]
+        unaware = [name for name in tried if subprocess.run([*known[name], mistake], capture_output=True).returncode != 1]
+        missed += len(unaware)
+        if tried:
+            print(f"-- broken on purpose: {meaning}: {'NOT noticed' if unaware else 'noticed'} by {', '.join(unaware or tried)}", flush=True)
+    return missed == 0
+
+
 def try_machine(machine):
-    print(machine.title())
-    fine = run(machine, build(machine, "refusals", [], []))
-    paging, registers = module("paging"), module("registers")
-    if not (paging and registers):
-        print(NOT_RUN.format(original.folder()))
-        return fine
-    library = build_original(machine, paging, registers)
-    program = build(machine, "beside", ["--extern", f"stage2={library}"], [library])
-    return run(machine, program, WHOLE_MAPS if machine.is_whole else BOUNDED_MAPS) and fine
+    print(machine.title(), flush=True)
+    known = programs(machine)
+    fine = all([run(name, words) for name, words in known.items()])
+    return fine and run_broken(known)
 
 
 if __name__ == "__main__":

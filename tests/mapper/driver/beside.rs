@@ -1,9 +1,12 @@
 // Maps by chance, on the port and on MiniVisor's untouched module: every word, every byte and every page, and the walk before and after.
-// usage: beside MAPS
+// usage: beside MAPS [MISTAKE]
+mod broken;
+mod differences;
 mod port;
 
-use port::{free, is_mapped, new_image, take_page, walk, Ask, Chance, World};
-use std::cell::RefCell;
+use broken::Map;
+use port::{free, is_blocked, is_mapped, new_image, take_page, walk, Ask, Chance, World};
+use std::cell::{Cell, RefCell};
 use std::rc::Rc;
 use std::time::{Duration, Instant};
 
@@ -59,21 +62,14 @@ fn ask(chance: &mut Chance, world: &World) -> Ask {
     Ask { output, input, size: size & !0xfff, readable, writable }
 }
 
-/// The module's call, over the same registers and a door of the library's on a second image.
-fn map_by_module(world: &World, image: Rc<RefCell<Vec<u8>>>, ask: Ask) -> Result<(), ()> {
+/// The registers and the door that the module's call finds.
+fn prepare(world: &World, door: stage2::Door) {
     stage2::VTTBR.with(|value| value.set(world.vttbr));
     stage2::VTCR.with(|value| value.set(world.vtcr));
-    stage2::DOOR.with(|door| {
-        *door.borrow_mut() = Some(Box::new(move |pages, order| {
-            assert_eq!((pages, order), (1, 12));
-            let at = take_page(&mut image.borrow_mut());
-            if at < 0 {
-                Err(())
-            } else {
-                Ok(at as usize)
-            }
-        }))
-    });
+    stage2::DOOR.with(|place| *place.borrow_mut() = Some(door));
+}
+
+fn map_by_module(ask: Ask) -> Result<(), ()> {
     stage2::paging::map_address_stage2(
         ask.output as usize,
         ask.input as usize,
@@ -83,23 +79,39 @@ fn map_by_module(world: &World, image: Rc<RefCell<Vec<u8>>>, ask: Ask) -> Result
     )
 }
 
+/// The library's pages, from a second image; the last answer of the door is kept.
+fn second_door(image: Rc<RefCell<Vec<u8>>>, last: Rc<Cell<i64>>) -> stage2::Door {
+    Box::new(move |pages, order| {
+        assert_eq!((pages, order), (1, 12));
+        last.set(take_page(&mut image.borrow_mut()));
+        usize::try_from(last.get()).map_err(|_| ())
+    })
+}
+
 struct Count {
     accepted: u64,
     wanting: u64,
     blocked: u64,
 }
 
-fn one(world: &mut World, ask: Ask, real: &mut [u64], count: &mut Count) -> Result<(), String> {
+fn one(map: Map, world: &mut World, ask: Ask, real: &mut [u64], count: &mut Count) -> Result<(), String> {
     let before = world.clone();
-    let answer = world.map(ask);
-    if answer == -4 && *world == before {
+    let walked = walk(&before);
+    let answer = map(world, ask);
+    let is_blocked = is_blocked(&walked, ask);
+    if is_blocked || answer == -4 {
         count.blocked += 1;
-        return Ok(());
+        let is_right = is_blocked && answer == -4 && *world == before;
+        return if is_right {
+            Ok(())
+        } else {
+            Err(format!("{answer}, and that a block stands in the way is {is_blocked}"))
+        };
     }
-    let image = Rc::new(RefCell::new(before.image.clone()));
+    let (image, last) = (Rc::new(RefCell::new(before.image.clone())), Rc::new(Cell::new(0)));
     real.copy_from_slice(&before.arena);
-    let theirs = map_by_module(&before, image.clone(), ask);
-    match (answer, theirs) {
+    prepare(&before, second_door(image.clone(), last.clone()));
+    match (answer, map_by_module(ask)) {
         (0, Ok(())) => {
             count.accepted += 1;
             if let Some(at) = (0..real.len()).find(|&at| real[at] != world.arena[at]) {
@@ -108,13 +120,13 @@ fn one(world: &mut World, ask: Ask, real: &mut [u64], count: &mut Count) -> Resu
             if *image.borrow() != world.image {
                 return Err("the allocators differ".into());
             }
-            is_mapped(&walk(&before), &walk(world), ask)
+            is_mapped(&walked, &walk(world), ask)
         }
-        (-3 | -1, Err(())) if *world == before => {
+        (number, Err(())) if number == last.get() && *world == before => {
             count.wanting += 1;
             Ok(())
         }
-        (number, theirs) => Err(format!("{number}, and {theirs:?} by the module")),
+        (number, theirs) => Err(format!("{number}, and {theirs:?} by the module, or something has changed")),
     }
 }
 
@@ -131,32 +143,40 @@ fn least(rounds: u32, mut make: impl FnMut() -> World, mut call: impl FnMut(&mut
         .unwrap()
 }
 
+const SIZES: [(&str, u64); 3] =
+    [("1 page, two fresh tables", 4096), ("2 MiB, one fresh table", 1 << 21), ("1 GiB, no fresh table", 1 << 30)];
+
+/// As in the hypervisor: the module's own allocator hands out the pages, and both have the same ones.
 fn times(empty: &[u8], real: &mut [u64]) {
-    for (name, size) in [("1 page", 4096), ("2 MiB", 1 << 21), ("1 GiB", 1 << 30)] {
-        let make = || {
-            let mut image = empty.to_vec();
-            assert_eq!(free(&mut image, BASE + 32 * 4096, 60 * 4096), 0);
-            World { image, arena: vec![0; (PAGES * 512) as usize], base: BASE, vttbr: BASE, vtcr: 1 << 6 | 32 }
-        };
+    let (from, many) = (BASE + 32 * 4096, 60 * 4096);
+    let make = || {
+        let mut image = empty.to_vec();
+        assert_eq!(free(&mut image, from, many), 0);
+        World { image, arena: vec![0; (PAGES * 512) as usize], base: BASE, vttbr: BASE, vtcr: 1 << 6 | 32 }
+    };
+    let own_door = || {
+        let mut memory = stage2::memory_allocator::MemoryAllocator::new();
+        memory.free(from as usize, many as usize).expect("free bytes");
+        Box::new(move |pages: usize, order| memory.allocate(pages * 4096, order).map_err(|_| ()))
+    };
+    for (name, size) in SIZES {
         let ask = Ask { output: 0x8000_0000, input: 0x4000_0000, size, readable: true, writable: true };
-        let ours = least(200, make, |world| assert_eq!(world.map(ask), 0));
-        let theirs = least(
-            200,
-            || {
-                real.fill(0);
-                make()
-            },
-            |world| {
-                let image = Rc::new(RefCell::new(std::mem::take(&mut world.image)));
-                assert_eq!(map_by_module(world, image, ask), Ok(()));
-            },
-        );
-        println!("a map of {name}: {:.1} times the module's time", ours.as_secs_f64() / theirs.as_secs_f64());
+        let ours = least(500, make, |world| assert_eq!(world.map(ask), 0));
+        let afresh = || {
+            real.fill(0);
+            let world = make();
+            prepare(&world, own_door());
+            world
+        };
+        let theirs = least(500, afresh, |_| assert_eq!(map_by_module(ask), Ok(())));
+        println!("a map of {name}: {:.0} times the module's time", ours.as_secs_f64() / theirs.as_secs_f64());
     }
 }
 
 fn main() {
-    let maps: u64 = std::env::args().nth(1).expect("a number of maps").parse().expect("a number");
+    let mut words = std::env::args().skip(1);
+    let maps: u64 = words.next().expect("a number of maps").parse().expect("a number");
+    let map = broken::chosen(words.next());
     let real = memory();
     let empty = new_image();
     let mut chance = Chance(0x9e37_79b9_7f4a_7c15);
@@ -165,7 +185,7 @@ fn main() {
         let mut world = world(&mut chance, &empty);
         for _ in 0..1 + chance.below(8) {
             let ask = ask(&mut chance, &world);
-            if let Err(trouble) = one(&mut world, ask, real, &mut count) {
+            if let Err(trouble) = one(map, &mut world, ask, real, &mut count) {
                 println!("vttbr {:#x}, vtcr {:#x}, {ask:x?}: {trouble}", world.vttbr, world.vtcr);
                 std::process::exit(1);
             }
@@ -175,5 +195,8 @@ fn main() {
         "{} maps beside the module, 0 differences; {} want a page on both sides, {} meet a block",
         count.accepted, count.wanting, count.blocked
     );
+    if !differences::hold(&empty, real) {
+        std::process::exit(1);
+    }
     times(&empty, real);
 }

@@ -78,9 +78,70 @@ impl World {
         }
     }
 
-    fn word(&self, address: u64) -> u64 {
-        self.arena[((address - self.base) / 8) as usize]
+    fn place(&self, address: u64) -> usize {
+        (address.wrapping_sub(self.base) / 8) as usize
     }
+
+    /// The word at an address; 0 outside the arena.
+    pub fn word(&self, address: u64) -> u64 {
+        self.arena.get(self.place(address)).copied().unwrap_or(0)
+    }
+
+    pub fn put(&mut self, address: u64, value: u64) {
+        let place = self.place(address);
+        if let Some(word) = self.arena.get_mut(place) {
+            *word = value;
+        }
+    }
+
+    fn level(&self) -> u32 {
+        2u32.saturating_sub((self.vtcr >> 6 & 3) as u32)
+    }
+
+    fn top(&self) -> u64 {
+        self.vttbr & 0xffff_ffff_fffe
+    }
+
+    /// How many entries of the top table an input reaches.
+    fn entries(&self) -> u64 {
+        1 << (64 - (self.vtcr & 63)).saturating_sub(shift(self.level()) as u64)
+    }
+
+    /// The level and the address of the word that the walk of an input ends with.
+    pub fn descriptor(&self, input: u64) -> (u32, u64) {
+        let mut level = self.level();
+        let mut at = self.top() + 8 * (input >> shift(level));
+        while level < 3 && self.word(at) & 3 == 3 {
+            level += 1;
+            at = table_at(self.word(at)) + 8 * (input >> shift(level) & 511);
+        }
+        (level, at)
+    }
+
+    /// The addresses of the tables that the top table leads to.
+    pub fn tables(&self) -> Vec<u64> {
+        let mut found = Vec::new();
+        self.add_tables(self.level(), self.top(), self.entries(), &mut found);
+        found
+    }
+
+    fn add_tables(&self, level: u32, address: u64, entries: u64, found: &mut Vec<u64>) {
+        for word in (0..entries).map(|index| self.word(address + 8 * index)) {
+            if level < 3 && word & 3 == 3 {
+                found.push(table_at(word));
+                self.add_tables(level + 1, table_at(word), 512, found);
+            }
+        }
+    }
+}
+
+/// A word of a level translates 2 to this power bytes.
+fn shift(level: u32) -> u32 {
+    12 + 9 * (3 - level)
+}
+
+fn table_at(word: u64) -> u64 {
+    word & 0xffff_ffff_f000
 }
 
 /// A stretch of inputs that are translated alike: the first, how many, the first output, and the attributes.
@@ -95,12 +156,12 @@ pub struct Stretch {
 const ATTRIBUTES: u64 = 0xfffc_0000_0000_0ffc;
 
 fn walk_table(world: &World, level: u32, address: u64, entries: u64, first: u64, found: &mut Vec<Stretch>) {
-    let shift = 12 + 9 * (3 - level);
+    let shift = shift(level);
     for index in 0..entries {
         let word = world.word(address + 8 * index);
         let input = first + (index << shift);
         match (level, word & 3) {
-            (0..=2, 3) => walk_table(world, level + 1, word & 0xffff_ffff_f000, 512, input, found),
+            (0..=2, 3) => walk_table(world, level + 1, table_at(word), 512, input, found),
             (1..=2, 1) | (3, 3) => found.push(Stretch {
                 input,
                 size: 1 << shift,
@@ -114,12 +175,19 @@ fn walk_table(world: &World, level: u32, address: u64, entries: u64, first: u64,
 
 /// All that is translated, by input, as the architecture has it.
 pub fn walk(world: &World) -> Vec<Stretch> {
-    let level = 2 - (world.vtcr >> 6 & 3) as u32;
-    let bits = 64 - (world.vtcr & 63) as u32;
-    let shift = 12 + 9 * (3 - level);
     let mut found = Vec::new();
-    walk_table(world, level, world.vttbr & 0xffff_ffff_fffe, 1 << (bits - shift), 0, &mut found);
+    walk_table(world, world.level(), world.top(), world.entries(), 0, &mut found);
     found
+}
+
+/// A block stands where the map wants a table: it has inputs of the range, and no block of the map can take its whole place.
+pub fn is_blocked(before: &[Stretch], ask: Ask) -> bool {
+    before.iter().filter(|stretch| stretch.size > 4096).any(|block| {
+        let (end, past) = (block.input + block.size, ask.input + ask.size);
+        let is_met = ask.input < end && block.input < past;
+        let is_whole = ask.input <= block.input && end <= past;
+        is_met && !(is_whole && (ask.output + (block.input - ask.input)) % block.size == 0)
+    })
 }
 
 /// What one input is translated to.

@@ -1,4 +1,6 @@
 // Every refusal and its order; tables that are shared, lead in a circle or stand elsewhere; what is huge ends soon. A refusal changes nothing.
+// usage: refusals [MISTAKE]
+mod broken;
 mod port;
 
 use port::{free, is_mapped, new_image, walk, Ask, World};
@@ -7,11 +9,13 @@ use std::time::{Duration, Instant};
 const BASE: u64 = 0x4000_0000;
 const PAGE: u64 = 4096;
 
-// T0SZ 32 at level 1: 4 entries of 1 GiB; pages 8 to 15 are free
+// T0SZ 32 at level 1: 4 entries of 1 GiB; pages 8 to 15 are free, and hold what looks like pages that are mapped
 fn world(empty: &[u8]) -> World {
     let mut image = empty.to_vec();
     assert_eq!(free(&mut image, BASE + 8 * PAGE, 8 * PAGE), 0);
-    World { image, arena: vec![0; 16 * 512], base: BASE, vttbr: BASE, vtcr: 0x60 }
+    let mut arena = vec![0; 16 * 512];
+    arena[8 * 512..].fill(0x1234_57ff);
+    World { image, arena, base: BASE, vttbr: BASE, vtcr: 0x60 }
 }
 
 fn table(page: u64) -> u64 {
@@ -28,6 +32,8 @@ const CASES: &[(&str, i64, Change)] = &[
     ("a block of 1 GiB", 0, |_, a| a.size = 1 << 30),
     ("all inputs", 0, |_, a| { a.output = 0; a.size = 1 << 32 }),
     ("no permission", 0, |_, a| { a.readable = false; a.writable = false }),
+    ("read only", 0, |_, a| a.writable = false),
+    ("write only", 0, |_, a| a.readable = false),
     ("size 0", -4, |_, a| a.size = 0),
     ("size of half a page", -4, |_, a| a.size = 2048),
     ("output in a page", -4, |_, a| a.output += 2048),
@@ -83,7 +89,8 @@ const CASES: &[(&str, i64, Change)] = &[
     ("an empty allocator", -3, |w, _| w.image = new_image()),
     ("one page, two wanted", -3, |w, _| { w.image = new_image(); free(&mut w.image, BASE + 8 * PAGE, PAGE); }),
     ("two pages, two wanted", 0, |w, _| { w.image = new_image(); free(&mut w.image, BASE + 8 * PAGE, 2 * PAGE); }),
-    ("2^48 bytes in pages", -3, |w, a| { w.vtcr = 0x90; w.vttbr = BASE; a.output = 0; a.size = 1 << 48 }),
+    ("2^48 bytes in blocks", -3, |w, a| { w.vtcr = 0x90; a.output = 0; a.size = 1 << 48 }),
+    ("all of them but a page, in pages", -3, |w, a| { w.vtcr = 0x90; a.output = PAGE; a.size = (1 << 48) - PAGE }),
     ("2^48 bytes, not aligned", -4, |w, a| { w.vtcr = 0x90; a.output = PAGE; a.size = 1 << 48 }),
     ("tables shared 512 times at each level", -2, |w, _| {
         w.vtcr = 0x90;
@@ -99,6 +106,7 @@ const CASES: &[(&str, i64, Change)] = &[
 ];
 
 fn main() {
+    let map = broken::chosen(std::env::args().nth(1));
     let empty = new_image();
     let mut failed = 0;
     for (name, wanted, change) in CASES {
@@ -107,7 +115,7 @@ fn main() {
         change(&mut world, &mut ask);
         let before = world.clone();
         let began = Instant::now();
-        let answer = world.map(ask);
+        let answer = map(&mut world, ask);
         let took = began.elapsed();
         let trouble = if answer != *wanted {
             Some(format!("{answer} in place of {wanted}"))
