@@ -20,7 +20,7 @@ use Rattle.calls.specs.Calls.{numberOf, addressOf, signedOf, voucherOf, voucher
 use Rattle.calls.proofs.Numbers.{signed-voucher}
 use Rattle.core_serve.specs.Made as ranges
 use Rattle.account_calls.proofs.Refusals.{ranges-answer}
-use Rattle.account_state.proofs.Exact.{sound-passes as account-passes}
+use Rattle.account_state.proofs.Exact as accounts
 use Rattle.check_meaning.proofs.Exact.{sound-sized, sound-passes}
 use Rattle.image_parts.specs.Layout.{Layout, Figured}
 use Rattle.image_parts.proofs.Lawful.{small-pool}
@@ -55,7 +55,7 @@ module _ (f : Layout) (full : Figured f) (m : List ℕ) (bytes : Bytes m) (r : L
       let image = accepted-image f (full .lawful) m bytes read in
       let small = small-pool f (full .lawful) in
       let a = image .state in
-      let answer = ranges-answer (f .records) a (rules.step (f .records) c) (account-passes (f .records) small a (image .sound)) in
+      let answer = ranges-answer (f .records) a (rules.step (f .records) c) (accounts.sound-passes (f .records) small a (image .sound)) in
       let same : voucherFrom c i ≡ voucherOf c (ranges.made (f .records) (a .ranges) c .answer) =
             ap (λ (x : Returned). voucherFrom c (x .number)) e ∙ ap (λ (x : List ℕ). voucherFrom c (callOver f c x .number)) (sym (image .bytes)) ∙ call-voucher f full a (image .sound) c
             ∙ ap (voucherOf c) answer in

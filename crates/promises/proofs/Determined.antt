@@ -30,6 +30,7 @@ each-determined = record {
   door-does = λ core m. one _ _ (λ x h. (λ i. (h .0 i, h .1 i)));
   listing = λ n s starts lasts. one _ _ (λ x h. (λ i. (h .answer i, h .starts-now i, h .lasts-now i)));
   free-listed = λ n s starts lasts. one _ _ (λ x h. (λ i. (h .answer i, h .starts-now i, h .lasts-now i)));
+  held-listed = λ n s w holders starts lasts. one _ _ (λ x h. (λ i. (h .answer i, h .holders-now i, h .starts-now i, h .lasts-now i)));
   list-served = λ n s l old. one _ _ (λ x h. (λ i. (h .outcome i, h .answers i)));
   sound-list-served = λ n s l old. one _ _ (λ x h. (λ i. (h .state i, h .answers i)));
   image-read = λ w x y h k.

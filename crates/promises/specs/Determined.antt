@@ -14,6 +14,8 @@ use Rattle.calls.specs.declared.Outcome.{Outcome}
 use Rattle.core_accounts.specs.Accounts as accounts
 use Rattle.holder_rules.specs.declared.HolderAllocator.{HolderAllocator}
 use Rattle.holder_lists.specs.Accounts.{FreeLists}
+use Rattle.holder_lists.specs.declared.Whose.{Whose}
+use Rattle.holder_ranges.specs.Holdings as ranges
 use Rattle.account_state.specs.declared.Account.{Account}
 use Rattle.account_state.specs.declared.Entered.{Entered}
 use Rattle.batch.specs.Lists.{Serves, Served}
@@ -52,6 +54,7 @@ pub record EachDetermined : Type 1 where
   -- the listing, also where there is a register, and a list of calls
   pub listing : (n : ℕ) (s : MemoryAllocator) (starts lasts : List ℕ) → Determined (λ (x : Counted × List ℕ × List ℕ). accounts.Lists n s starts lasts (x .0) (x .1) (x .2))
   pub free-listed : (n : ℕ) (s : HolderAllocator) (starts lasts : List ℕ) → Determined (λ (x : Counted × List ℕ × List ℕ). FreeLists n s starts lasts (x .0) (x .1) (x .2))
+  pub held-listed : (n : ℕ) (s : HolderAllocator) (w : Whose) (holders starts lasts : List ℕ) → Determined (λ (x : Counted × List ℕ × List ℕ × List ℕ). ranges.Lists n s w holders starts lasts (x .0) (x .1) (x .2) (x .3))
   pub list-served : (n : ℕ) (s : Account) (l : List ℕ) (old : List ℤ) → Determined (λ (x : Entered × List ℤ). Serves n s l old (x .0) (x .1))
   pub sound-list-served : (n : ℕ) (s : Account) (l : List ℕ) (old : List ℤ) → Determined (λ (x : Account × List ℤ). Served n s l old (x .0) (x .1))
   -- images
