@@ -57,8 +57,8 @@ module _ (f : Layout) (full : Figured f) (m : List ℕ) (bytes : Bytes m) (r : L
       let a = image .state in
       let answer = ranges-answer (f .records) a (rules.step (f .records) c) (accounts.sound-passes (f .records) small a (image .sound)) in
       let same : voucherFrom c i ≡ voucherOf c (ranges.made (f .records) (a .ranges) c .answer) =
-            ap (λ (x : Returned). voucherFrom c (x .number)) e ∙ ap (λ (x : List ℕ). voucherFrom c (callOver f c x .number)) (sym (image .bytes)) ∙ call-voucher f full a (image .sound) c
-            ∙ ap (voucherOf c) answer in
+      ap (λ (x : Returned). voucherFrom c (x .number)) e ∙ ap (λ (x : List ℕ). voucherFrom c (callOver f c x .number)) (sym (image .bytes)) ∙ call-voucher f full a (image .sound) c
+      ∙ ap (voucherOf c) answer in
       subst (Moves c) (ap (λ (v : rules.Voucher). v .address) (sym same))
       (accepted-moves (f .records) small (a .ranges) (sound-sized (f .records) small (a .ranges) (image .sound .ranges)) (sound-passes (f .records) small (a .ranges) (image .sound .ranges)) c t
       (ap (λ (v : rules.Voucher). v .number) (sym same) ∙ not-below i n))
