@@ -372,12 +372,6 @@ static uint8_t *entry_at(uint8_t *image, int number)
     return image + 5 + ENTRY_BYTES * number;
 }
 
-static void put_number(uint8_t *bytes, uint64_t number)
-{
-    for (int i = 0; i < 8; i++)
-        bytes[i] = (uint8_t)(number >> (56 - 8 * i));
-}
-
 /* The entry of exactly these bytes, of this holder; of anybody, if it is 0. */
 static uint8_t *exactly(uint8_t *image, uint64_t holder, uint64_t start, uint64_t size)
 {
