@@ -236,7 +236,7 @@ CINGHJALOFA_INLINE const char *cinghjalofa_text(int64_t answer) {
  * last in 8, all 0 where it is not used; from byte CINGHJALOFA_HOLDERS_MEMORY on the allocator's image. That part may be lent to
  * cinghjalofa_total and cinghjalofa_listing; it must not be lent to a call that changes it, which knows no register.
  *
- * Each call checks length, register and allocator before all else. It takes less than 32768 bytes of stack: the allocator is asked on a
+ * Each call checks length, register and allocator before all else. It takes less than 36864 bytes of stack: the allocator is asked on a
  * copy of its image, so that a refusal changes no byte.
  */
 #define CINGHJALOFA_HOLDERS_MEMORY 1093
