@@ -5,7 +5,7 @@ import subprocess
 from scratch import ANSWER, Scratch, like, until
 
 CHECKED = ["begins: check script"]
-LIBRARY = [f"begins: staticlib {crate}" for crate in ("c_calls", "c_upgrade", "door_fields", "door_own", "door_lists", "door_accounts", "mapper")]
+LIBRARY = [f"begins: staticlib {crate}" for crate in ("c_calls", "door_fields", "door_own", "door_lists", "door_accounts", "mapper")]
 RUN = ["./run", "crates.txt"]
 ANSWERED = (0, "ok\nok\n")
 
