@@ -1,2 +1,2 @@
 -- What an upgrade returns.
-pub mod Upgrade
+pub mod Signed

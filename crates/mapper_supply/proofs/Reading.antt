@@ -7,29 +7,33 @@ use lib.IntN.{pos}
 use lib.Signed.{ltZ}
 use Rattle.linked_lists.specs.Links.{none}
 use Rattle.linked_lists.proofs.Laws.{true≢false}
-use Rattle.rules.specs.Rules.{Book, Voucher, step, voucher}
+use Rattle.rules.specs.Rules.{Book, Voucher, total, step, voucher}
 use Rattle.rules.specs.Sound.{Sound}
+use Rattle.rules_lowest.specs.Lowest.{lowSound, noted}
+use Rattle.rules_lowest.proofs.Least.{noted-sound}
 use Rattle.rules_laws.proofs.Outcomes.{outcome}
 use Rattle.rules_laws.proofs.Steps.{step-sound}
 use Rattle.pool_state.specs.Shown.{pool}
 use Rattle.pool_state.specs.State.{stateOf}
-use Rattle.pool_state.specs.Sound.{bookOf, SoundState}
-use Rattle.check_state.specs.IsSound.{isSound}
-use Rattle.check_meaning.proofs.Exact.{passes-sound}
+use Rattle.pool_state.specs.Sound.{bookOf}
+use Rattle.pool_state.specs.declared.MemoryAllocator.{MemoryAllocator}
+use Rattle.account_state.specs.Account.{account, isSound}
+use Rattle.account_state.specs.declared.Account.{Account}
+use Rattle.account_state.specs.declared.Entered.{Entered}
+use Rattle.account_state.proofs.Exact.{passes-sound}
 use Rattle.calls.specs.Calls.{numberOf, addressOf, answerOf, voucherOf, isAccepted, signedOf, addressFrom}
 use Rattle.calls.specs.declared.Answer.{Answer}
 use Rattle.calls.specs.declared.Answer.the-variants.{Accepted, NoEntry, InvalidEntry, NoMemory, InvalidRequest}
-use Rattle.calls.specs.declared.Outcome.{Outcome}
 use Rattle.calls.proofs.Numbers.{refusal-negative, numbered}
-use Rattle.core_serve.specs.Made.{held}
-use Rattle.memory_allocator.proofs.Steps.{sound-held, made-held}
+use Rattle.account_calls.specs.Made.{held}
+use Rattle.account_calls.proofs.Steps.{sound-held, made-held}
 use Rattle.image_parts.specs.Layout.{current}
-use Rattle.image_parts.proofs.Lawful.{lawful-current, small-pool}
+use Rattle.image_parts.proofs.Lawful.{lawful-current, figured-current, small-pool}
 use Rattle.image_writing.specs.Writing.{imageOf}
-use Rattle.image_reading.specs.Reading.{framed, stateIn, readable}
+use Rattle.image_reading.specs.Reading.{framed, stateIn, lowIn, accountIn, readable}
 use Rattle.image_reading.proofs.Whole.{state-sized}
 use Rattle.image.specs.Reading.{accepted, readingOf}
-use Rattle.image.proofs.Rounds.{read-written}
+use Rattle.image.proofs.Rounds.{read-same}
 use Rattle.c_over.specs.CCalls.{Returned, finished, over, callOver}
 use Rattle.mapper_pages.specs.Pages.{pageFrom}
 use Rattle.mapper_pages.proofs.Asking.{page-call}
@@ -42,16 +46,29 @@ second : (a b : Bool) → (a && b) ≡ true → b ≡ true
 second true b e = e
 second false b e = true≢false (sym e)
 
--- l reads as the state that holds the sound book b
+-- l reads as the account that holds the sound book b, with a figure that may stand beside its total
 pub record Reads (b : Book) (l : List ℕ) : Type 0 where
   pub sound : Sound pool b
-  pub reads : readingOf current l ≡ accepted (stateOf pool b)
+  pub low : ℕ
+  pub fits : lowSound (total b) low ≡ true
+  pub reads : readingOf current l ≡ accepted (account (stateOf pool b) low)
+
+-- what may stand beside the stored total may stand beside that of the book
+fits-total : (b : Book) (t : MemoryAllocator) (low : ℕ) → stateOf pool b ≡ t → lowSound (t .«free_size») low ≡ true → lowSound (total b) low ≡ true
+unfolding stateOf
+fits-total b t low e h = ap (λ (m : MemoryAllocator). lowSound (m .«free_size») low) e ∙ h
 
 pub read-first : (l : List ℕ) → readable current l ≡ true → Reads (bookOf pool (stateIn current l)) l
 unfolding readingOf
 read-first l r =
-    let s : SoundState pool (stateIn current l) = passes-sound pool small (stateIn current l) (state-sized current l) (second (framed current l) (isSound pool (stateIn current l)) r) in
-    record { sound = s .book; reads = rw r (ap accepted (sym (s .state))) }
+    let s = passes-sound pool small (accountIn current l) (state-sized current l) (second (framed current l) (isSound pool (accountIn current l)) r) in
+    let same = s .ranges .state in
+    record {
+      sound = s .ranges .book;
+      low = lowIn current l;
+      fits = fits-total (bookOf pool (stateIn current l)) (stateIn current l) (lowIn current l) same (s .low);
+      reads = rw r (ap (λ (t : MemoryAllocator). accepted (account t (lowIn current l))) (sym same));
+    }
 
 -- an answer that is no refusal
 took : (k : Answer) → isAccepted k ≡ true → (numberOf k ≡ 0) × (addressFrom (signedOf k) ≡ addressOf k)
@@ -63,9 +80,9 @@ took InvalidRequest e = true≢false (sym e)
 
 module _ (b : Book) (l : List ℕ) (r : Reads b l) where
   -- what the door returns
-  pub door : pageFrom l ≡ finished current (held pool (step pool one b)) l
+  pub door : pageFrom l ≡ finished current (held pool (r .low) (step pool one b)) l
   unfolding callOver over
-  door = sym (page-call l) ∙ rw (r .reads) (ap (λ (x : Outcome). finished current x l) (made-held pool small b one (r .sound)))
+  door = sym (page-call l) ∙ rw (r .reads) (ap (λ (x : Entered). finished current x l) (made-held pool small b (r .low) one (r .sound) (r .fits)))
 
   abbrev result : Answer
   result = answerOf (step pool one b .number) (step pool one b .address)
@@ -89,11 +106,20 @@ module _ (b : Book) (l : List ℕ) (r : Reads b l) where
     unfolding finished
     page-address = ap (λ (x : Returned). addressFrom (x .number)) door ∙ took result accepts .1 ∙ ap (λ (v : Voucher). v .address) numbers
 
-    next-bytes : pageFrom l .bytes ≡ imageOf current (stateOf pool (step pool one b .book))
+    abbrev next-low : ℕ
+    next-low = noted (step pool one b .number) (total (step pool one b .book)) (r .low)
+
+    next-bytes : pageFrom l .bytes ≡ imageOf current (account (stateOf pool (step pool one b .book)) next-low)
     unfolding finished
     next-bytes = ap (λ (x : Returned). x .bytes) door ∙ rw accepts
 
     pub read-next : Reads (step pool one b .book) (pageFrom l .bytes)
     read-next =
         let s = step-sound pool b one (r .sound) in
-        record { sound = s; reads = ap (readingOf current) next-bytes ∙ read-written current lawful-current (stateOf pool (step pool one b .book)) (sound-held pool small (step pool one b .book) s) }
+        let f = noted-sound pool b one (r .sound) (r .low) (r .fits) in
+        record {
+          sound = s;
+          low = next-low;
+          fits = f;
+          reads = ap (readingOf current) next-bytes ∙ read-same current figured-current (account (stateOf pool (step pool one b .book)) next-low) (sound-held pool small (step pool one b .book) next-low s f);
+        }

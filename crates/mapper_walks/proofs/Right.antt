@@ -15,12 +15,13 @@ use Rattle.rules_laws.proofs.Lists.{and-i, and-l, and-r, or-e, T-no, T-true, T-
 use Rattle.pool_state.specs.Shown.{pool}
 use Rattle.pool_state.specs.State.{stateOf}
 use Rattle.pool_state.specs.Sound.{bookOf}
-use Rattle.pool_state.specs.declared.MemoryAllocator.{MemoryAllocator}
+use Rattle.account_state.specs.Account.{account}
+use Rattle.account_state.specs.declared.Account.{Account}
 use Rattle.pool_state.proofs.Book.{book-back}
 use Rattle.pool_listing.specs.Listing.{lastOf}
 use Rattle.image_parts.specs.Layout.{current}
 use Rattle.image_parts.proofs.Lawful.{lawful-current, small-pool}
-use Rattle.image_reading.specs.Reading.{stateIn, readable}
+use Rattle.image_reading.specs.Reading.{stateIn, accountIn, readable}
 use Rattle.image.specs.Reading.{Handed, accepted, refused, readingOf}
 use Rattle.mapper_rules.specs.Numbers.{outputTop}
 use Rattle.mapper_laws.specs.Tree.{some, In, Once}
@@ -45,10 +46,10 @@ pub record Right (base high : ℕ) (b : Book) (tables : List ℕ) : Type 0 where
 
 pub book-read : (b : Book) (l : List ℕ) → Reads b l → (readable current l ≡ true) × (bookOf pool (stateIn current l) ≡ b)
 unfolding readingOf
-book-read b l r = go (readable current l) (stateIn current l) (r .reads)
+book-read b l r = go (readable current l) (accountIn current l) (r .reads)
   where
-    go : (c : Bool) (s : MemoryAllocator) → cond {A = Handed} c (accepted s) (refused current) ≡ accepted (stateOf pool b) → (c ≡ true) × (bookOf pool s ≡ b)
-    go true s e = (refl, ap (λ (h : Handed). bookOf pool (h .state)) e ∙ book-back pool (small-pool current lawful-current) b (r .sound))
+    go : (c : Bool) (s : Account) → cond {A = Handed} c (accepted s) (refused current) ≡ accepted (account (stateOf pool b) (r .low)) → (c ≡ true) × (bookOf pool (s .ranges) ≡ b)
+    go true s e = (refl, ap (λ (h : Handed). bookOf pool (h .state .ranges)) e ∙ book-back pool (small-pool current lawful-current) b (r .sound))
     go false s e = absurd (let z = ap (λ (h : Handed). h .number) e in let y : ⊥ = omega arith in y)
 
 -- ---- runs of tests over ranges

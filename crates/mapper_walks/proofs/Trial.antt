@@ -6,23 +6,25 @@ use Prim.Native.Nat.{ℕ, _/_}
 use lib.Dec.{T}
 use lib.IntN.{pos}
 use lib.ListN.{length, replicate}
-use borrow.Author.Tests.{eq-eqb}
-use Rattle.rules.specs.Rules.{Range, Book, range, empty, sum, before, without, put, remove, any, find, lowest, unused, up, taken, joined, given, refuse, allocateFrom, allocate, free, Free, step}
+use native.Mathlib.Omega.{arith}
+use borrow.Author.Tests.{eq-eqb, le-leb}
+use Rattle.rules.specs.Rules.{Range, Book, range, empty, sum, total, before, without, put, remove, any, find, lowest, unused, up, taken, joined, given, refuse, allocateFrom, allocate, free, Free, step}
 use Rattle.rules_laws.proofs.Kept.{empty-sound}
 use Rattle.rules_laws.proofs.Steps.{step-sound}
 use Rattle.rules_laws.proofs.Lists.{T-true, T-false}
 use Rattle.pool_state.specs.Shown.{pool}
 use Rattle.pool_state.specs.State.{stateOf}
 use Rattle.pool_state.specs.Sound.{bookOf}
-use Rattle.memory_allocator.proofs.Steps.{sound-held}
+use Rattle.account_calls.proofs.Steps.{sound-held}
 use Rattle.image_parts.specs.Layout.{current, imageSize}
-use Rattle.image_parts.proofs.Lawful.{lawful-current, small-pool}
+use Rattle.image_parts.proofs.Lawful.{lawful-current, figured-current, small-pool}
 use Rattle.image_writing.specs.Writing.{imageOf}
-use Rattle.image_reading.specs.Reading.{framed, stateIn, readable}
-use Rattle.image.proofs.Rounds.{read-written}
+use Rattle.image_reading.specs.Reading.{framed, stateIn, accountIn, readable}
+use Rattle.image.proofs.Rounds.{read-same}
 use Rattle.image.proofs.Ways.{framed-frame}
 use Rattle.image_parts.proofs.Loops.{both}
-use Rattle.check_state.specs.IsSound.{isSound}
+use Rattle.account_state.specs.Account.{account, isSound}
+use Rattle.rules_lowest.specs.Lowest.{lowSound}
 use Rattle.image_calls.specs.Lists.{Returned, finished}
 use Rattle.mapper_rules.specs.Walk.{span, Translation, Fault, To, walkFrom, walk}
 use Rattle.mapper_rules.specs.Numbers.{badLevel, topBytes, badRegisters, badRange, badNumbers}
@@ -80,7 +82,7 @@ module _ (l : List ℕ) (r : Reads book l) where
   lying = rw (known .0, chain-is) tt
 
   long : length l ≡ imageSize current
-  long = framed-frame current l (both (framed current l) (isSound pool (stateIn current l)) (known .0) .0) .sized
+  long = framed-frame current l (both (framed current l) (isSound pool (accountIn current l)) (known .0) .0) .sized
 
   page-had : pageFrom l .number ≡ pos 0x40001000
   unfolding finished sum before without remove any find lowest unused up taken joined given put refuse allocateFrom allocate free step
@@ -111,11 +113,12 @@ module _ (l : List ℕ) (r : Reads book l) where
 -- ---- so 0x1234 is translated to 0x80000234, readable, and 0x2234 faults as before
 
 abbrev image : List ℕ
-image = imageOf current (stateOf pool book)
+image = imageOf current (account (stateOf pool book) 0)
 
 reads : Reads book image
 reads = let s = step-sound pool empty (Free 0x40001000 4096) (empty-sound pool) in
-    record { sound = s; reads = read-written current lawful-current (stateOf pool book) (sound-held pool (small-pool current lawful-current) book s) }
+    let f : lowSound (total book) 0 ≡ true = rw (le-leb 0 (total book) (omega arith)) in
+    record { sound = s; low = 0; fits = f; reads = read-same current figured-current (account (stateOf pool book) 0) (sound-held pool (small-pool current lawful-current) book 0 s f) }
 
 abbrev translation : ℕ → Translation
 translation = walk (memory (shows (0x40000000 / 8) (mapOver 0x40000000 0x40000000 0x27 0x80000000 0x1000 0x1000 true false image A .words))) 0x40000000 0x27

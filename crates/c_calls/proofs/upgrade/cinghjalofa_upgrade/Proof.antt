@@ -1,7 +1,7 @@
 use mathlib.Core.Path.{sym, ap, _∙_}
 use Rattle.image.specs.declared.ImageAnswer.{ImageAnswer}
 use Rattle.c_over.specs.CCalls.{returned}
-use Rattle.c_calls.proofs.Upgrade.{codeOf, upgrade-told}
+use Rattle.c_calls.proofs.Signed.{codeOf, upgrade-told}
 use borrow.Author.Needs.{needs}
 use Rattle.c_calls.proofs.upgrade.cinghjalofa_upgrade.Statement.{statement}
 use Rattle.c_calls.proofs.upgrade.cinghjalofa_upgrade.Tie as tie
