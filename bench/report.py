@@ -151,8 +151,8 @@ Lists of several lengths, about {ranges_of_lists} free ranges, and again as a mu
 ## Stack and code
 
 Of the archive that was measured. The bytes of stack are the most that a call took, refused ones among them, with all records in use
-but one. Each object has all that it calls, so a program links those that it uses: `c_calls.o` has the calls over an image, `c_calls_upgrade.o` the
-upgrade of an older one, `door_own.o` those on a state of one's own, `door_fields.o` a new one and its check, `door_lists.o` lists of calls on one, and images into
+but one. Each object has all that it calls, so a program links those that it uses: `c_calls.o` has the calls over an image, `c_upgrade.o` the
+upgrade of an older one, `c_holders.o` those with holders, `door_own.o` those on a state of one's own, `door_fields.o` a new one and its check, `door_lists.o` lists of calls on one, and images into
 and out of it.
 
 {sizes(results)}
