@@ -57,6 +57,7 @@ JUDGED = [
 def not_shown(folder):
     """Books that close over an answer which the audit finds."""
     file, page = folder.write("journal", journal(*ELSEWHERE)), folder / "page"
+    run("audit", file)  # the first one says that it is built
     yield held_to("the audit finds it", run("audit", file), 1, r"differs 1\n", "")
     run("books", file, "--html", page)
     yield "the page says so too", None if REPLAYED.strip().replace("'", "&#x27;") in page.read_text("utf-8") else "it does not"
