@@ -234,8 +234,9 @@ CINGHJALOFA_INLINE const char *cinghjalofa_text(int64_t answer) {
 /*
  * The allocator with a register of who holds what: the same image inside, and 64 entries before it. The register's bytes: version 1;
  * the length of the rest in 4; from byte 5 on 17 for each entry: its holder, or 0 where it is not used, its first byte in 8 and its
- * last in 8, all 0 where it is not used; from byte CINGHJALOFA_HOLDERS_MEMORY on the allocator's image. That part may be lent to
- * cinghjalofa_total and cinghjalofa_listing; it must not be lent to a call that changes it, which knows no register.
+ * last in 8, all 0 where it is not used; numbers have their high byte first. From byte CINGHJALOFA_HOLDERS_MEMORY on stands the
+ * allocator's image. That part may be lent to cinghjalofa_total, cinghjalofa_lowest and cinghjalofa_listing; it must not be lent to
+ * a call that changes it, which knows no register.
  *
  * Each call checks length, register and allocator before all else. It takes less than 40960 bytes of stack: the allocator is asked on a
  * copy of its image, so that a refusal changes no byte.

@@ -38,8 +38,11 @@ def cases(words, is_few=False):
             yield name, None if is_right else f"it ends with {ended.status}, prints {ended.out!r} and says {ended.said!r}"
         ended = run("books", folder.write("calls", "\ufefff 16 16\n".encode("utf-16-le")))
         yield "UTF-16", None if ended.status == 2 and "is written in UTF-16" in ended.said else f"{ended}"
-        ended = run("books", folder.write("calls", b"holders\no 16 16\n"))
-        yield "the register's forms", None if ended.status == 2 and "the forms of the register" in ended.said else f"{ended}"
+        held = folder.write("calls", b"holders\no 16 16\n")
+        for asked in (["books", held], ["check", held, folder.write("answers", b"ok\n")]):
+            ended = run(*asked)
+            is_refused = ended.status == 2 and not ended.out and "the forms of the register" in ended.said
+            yield f"the register's forms, {asked[0]}", None if is_refused else f"{ended}"
     for line in BAD:
         desk, entries, _ = books(words, line + b"\nl\n")
         is_bad = entries[0].answer.kind == "bad" and entries[0].reason and desk.first_fault is None and desk.book.total == 0

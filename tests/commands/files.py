@@ -27,6 +27,10 @@ def empty(folder):
     file = folder / "empty"
     file.touch()
     yield "record of an empty file", run([RUN, "record", file]).problem(0, "\1", EMPTY.format(file))
+    file.write_text("holders\no 0 8\n")
+    said = f"run: {file} begins the forms of the register, of which a journal keeps none\n"
+    yield "record of the register's forms", run([RUN, "record", file]).problem(2, "", said)
+    file.write_text("")
     yield "record of empty input", run([RUN, "record", "-"], stdin=open(file)).problem(0, "\1", EMPTY.format("standard input"))
     yield "record of an empty pipe", shell(f": | '{RUN}' record -").problem(0, "\1", EMPTY.format("standard input"))
     yield "record of calls", shell(f"'{RUN}' record '{CALLS}' >'{folder}/journal'").problem(0, "", "")

@@ -19,9 +19,6 @@ class Unanswered(Exception):
 def by_program(held, program=PROGRAM):
     """The proved program's answers, at last to a listing in a line of its own behind the others. An empty line is `bad` to it."""
     number, file = 0, held.lines("l\n")
-    with _again(held) as lines:
-        if next(lines, "") == "holders\n":
-            raise Unanswered("the first line begins the forms of the register, which the books do not know")
     with subprocess.Popen(program, stdin=file, stdout=subprocess.PIPE, encoding="latin-1") as running, _again(held) as lines:
         answered = _printed(running.stdout)
         for number, (line, answer) in enumerate(zip(lines, answered), 1):
@@ -32,6 +29,14 @@ def by_program(held, program=PROGRAM):
         if running.wait() == 0 and is_whole:
             return
     raise Unanswered("the program's answers are not one for each line")
+
+
+def refuse_register(held):
+    """A first line `holders` begins other forms, of which an `f` or an `a` has one number more."""
+    held.file.flush()
+    with _again(held) as lines:
+        if next(lines, "") == "holders\n":
+            raise Unanswered("the first line begins the forms of the register, which the books do not know")
 
 
 def _printed(lines):
