@@ -1,17 +1,14 @@
 -- The C calls from an empty image on are the register's calls above the allocator's C calls. Assumes nothing.
-use Prim.Native.Nat.{ℕ, zero, suc, _+_, _^_, _≤_, _<_}
-use mathlib.Core.Bool.{Bool, true, false, not, cond, _&&_}
+use Prim.Native.Nat.{ℕ, zero, suc, _^_, _<_}
+use mathlib.Core.Bool.{Bool, true, false, not, cond}
 use mathlib.Core.List.{List, [], _∷_}
-use mathlib.Core.Logic.{_≢_, _⊎_, inl, inr}
-use mathlib.Core.Path.{_≡_, refl, sym, ap, _∙_, subst}
+use mathlib.Core.Path.{_≡_, refl, ap, _∙_}
 use native.Mathlib.Omega.{arith}
-use lib.Dec.{T, leb, eqb, leb→le, lit≤}
-use lib.IntN.{ℤ, pos, negsuc}
+use lib.Dec.{eqb}
 use lib.ListN.{length, getD, length-drop}
-use borrow.Author.Tests.{eq-eqb, ne-eqb, eqb-true, eqb-false}
-use Rattle.rules.specs.Rules as rules
-use Rattle.rules.specs.Rules.{top, Free, Allocate, Reserve}
-use Rattle.rules_laws.proofs.Lists.{and-l, and-r, T-true}
+use borrow.Author.Tests.{eq-eqb, ne-eqb, eqb-true}
+use Rattle.rules.specs.Rules.{Free, Allocate, Reserve}
+use Rattle.rules_laws.proofs.Lists.{T-true}
 use Rattle.rules_engine.specs.Engine.{Engine}
 use Rattle.image_parts.specs.Layout.{Layout, Figured, lengthSize, imageSize}
 use Rattle.image_parts.proofs.Loops as loops
@@ -20,21 +17,21 @@ use Rattle.image.specs.Writing.{Image}
 use Rattle.image.specs.Reading.{readingOf}
 use Rattle.image.proofs.Rounds.{image-accepted}
 use Rattle.c_over.specs.CCalls.{Returned}
-use Rattle.c_over.specs.Images.{images, bookIn}
+use Rattle.c_over.specs.Images.{images}
 use Rattle.c_over.proofs.Demand.{obeys}
-use Rattle.holder_rules.specs.Register.{entries, known, blank, blanks, replace}
-use Rattle.holder_rules.specs.Holders.{Holding, both, nothing, Answer, offer, giveBack, take, asked, Call, Offer, By, step, Voucher, voucher, run, trail}
-use Rattle.holder_rules.specs.Sound.{Has, Held, SoundEntries, registerSound}
+use Rattle.holder_rules.specs.Register.{entries, blank, blanks, replace}
+use Rattle.holder_rules.specs.Holders.{Holding, both, nothing, Answer, offer, giveBack, take, asked, Call, Offer, By, step, voucher, run, trail}
+use Rattle.holder_rules.specs.Sound.{registerSound}
 use Rattle.holder_rules.specs.declared.Entry.{Entry}
-use Rattle.holder_laws.specs.Demand as demands
 use Rattle.holder_laws.proofs.Demand as laws
 use Rattle.holder_laws.proofs.Outcomes.{Kept, Comes, refusal, offers, gives-back, takes, comes}
 use Rattle.holder_laws.proofs.Keeps.{step-keeps}
 use Rattle.holder_check.proofs.Exact.{sound←}
 use Rattle.holder_image.specs.Layout.{memoryAt, wholeSize, restOf}
 use Rattle.holder_image.specs.Bytes.{bytesOf, memoryIn, registerIn, holdingIn, headed}
+use Rattle.holder_image.proofs.Fitting.{sound-fits}
 use Rattle.holder_image.proofs.Rounds.{Fits, holding-back, memory-back, register-back, headed-back}
-use Rattle.holder_calls.specs.Calls.{signed, finished, soundIn, over, callOver, newOver}
+use Rattle.holder_calls.specs.Calls.{finished, soundIn, over, callOver, newOver}
 use Rattle.holder_calls.specs.Doors.{after, voucherFrom, vouchers, AtDoor}
 
 -- what an engine begins with is not looked at
@@ -60,22 +57,6 @@ length-blanks : (m : ℕ) → length (blanks m) ≡ m
 unfolding blanks
 length-blanks zero = refl
 length-blanks (suc m) = ap suc (length-blanks m)
-
-has : (r : List Entry) (i : ℕ) → i < length r → Has (getD r i blank) r
-has [] i h = absurd (let v : ⊥ = omega arith in v)
-has (q ∷ r) zero h = inl refl
-has (q ∷ r) (suc i) h = inr (has r i (omega arith))
-
--- the numbers of a sound register have room in their bytes
-sound-fits : (r : List Entry) → SoundEntries r → (i : ℕ) → i < length r → Fits (getD r i blank)
-sound-fits r s i h = elim (s .good (getD r i blank) (has r i h)) [
-  | inl d ↦ subst Fits (sym d) (record { holder = lit≤ tt; start = lit≤ tt; last = lit≤ tt })
-  | inr g ↦
-      let w = leb→le (getD r i blank .holder .0) 16 (and-r (leb 1 (getD r i blank .holder .0)) (leb (getD r i blank .holder .0) 16) (g .whose)) in
-      let p = g .proper in
-      let b = g .below in
-      record { holder = omega arith; start = omega arith; last = omega arith }
-]
 
 -- an image has its length
 read-length : (f : Layout) (m : List ℕ) → readingOf f m .number ≡ 0 → length m ≡ imageSize f

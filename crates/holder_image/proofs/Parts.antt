@@ -1,21 +1,21 @@
 -- Parts of the register's image: their lengths, and what is read where. Assumes nothing.
 use Prim.Native.Nat.{ℕ, _+_, _-_, _*_, _≤_, _<_}
-use mathlib.Core.Bool.{Bool, true, false, _&&_}
-use mathlib.Core.List.{List, [], _++_, append-nil, append-assoc}
+use mathlib.Core.Bool.{true, false}
+use mathlib.Core.List.{List, _++_, append-nil}
 use mathlib.Core.Path.{_≡_, refl, sym, ap, _∙_}
-use native.Mathlib.Nat.{zero-add}
 use native.Mathlib.Numerals.{add-one}
 use native.Mathlib.Omega.{arith}
 use lib.Dec.{eqb}
 use lib.ListN.{length, getD, set, take, drop, length-append, length-take, length-drop, length-set, drop-of-length-le}
-use lib.Seq.{take-at, drop-at, drop-drop, take-add, take-take, length-take-le, getD-drop, paste, paste-zero, paste-suc, take-length}
-use borrow.Author.Tests.{eq-eqb, ne-eqb}
+use lib.Seq.{drop-at, drop-drop, take-add, take-take, length-take-le, getD-drop, paste, paste-zero, paste-suc, take-length}
+use borrow.Author.Tests.{eq-eqb, ne-eqb, eqb-true}
+use borrow.Rule.Slice.PartMut.{putMid}
 use Rattle.bytes_be.specs.Numbers.{number}
 use Rattle.bytes_be.proofs.Laws.{length-be}
-use Rattle.pool_listing.specs.Listing.{written}
 use Rattle.pool_listing.proofs.Writing.{partly, partly-on, partly-all}
 use Rattle.image_parts.specs.Layout.{Layout, word, lengthAt, lengthSize}
 use Rattle.image_parts.specs.Read.{numberIn}
+use Rattle.image_parts.proofs.Loops as loops
 use Rattle.image_parts.proofs.Parts.{length-joined}
 use Rattle.holder_rules.specs.Register.{entries, entry, blank}
 use Rattle.holder_rules.specs.Holders.{both}
@@ -68,6 +68,10 @@ module _ (f : Layout) (l : List ℕ) where
     pub headed-rest : v ≡ version → (r : ℕ) → r ≡ numberIn l lengthAt lengthSize → eqb r (restOf f) ≡ headed f l
     unfolding headed
     headed-rest on r er = rw (eq-eqb (length l) (wholeSize f) h, ← ev, eq-eqb v version on, ← er)
+
+  pub headed-size : headed f l ≡ true → length l ≡ wholeSize f
+  unfolding headed
+  headed-size h = eqb-true (length l) (wholeSize f) (loops.both (eqb (length l) (wholeSize f)) _ h .0)
 
 -- ---- the allocator's bytes, copied out
 
@@ -132,3 +136,12 @@ pub placed : (f : Layout) (old now now′ memory : List ℕ) (r : List Entry) �
 unfolding bytesOf
 placed f old now now′ memory r h e g =
     g ∙ ap (λ (x : List ℕ). frontBytes f r ++ x) (ap memoryIn e ∙ drop-at (take memoryAt old) memory memoryAt (length-take-le memoryAt old (omega arith)))
+
+-- the allocator's bytes were lent, as a part to the end, and written; and then the front
+part-put : (l y : List ℕ) (k : ℕ) → memoryAt + k ≡ length l → putMid memoryAt k l y ≡ take memoryAt l ++ y
+part-put l y k h =
+    let rest = drop-of-length-le (drop memoryAt l) {i = k} (let d = length-drop memoryAt l in omega arith) in
+    ap (λ (x : List ℕ). take memoryAt l ++ x) (ap (λ (x : List ℕ). y ++ x) rest ∙ append-nil y)
+
+pub part-placed : (f : Layout) (old now′ memory : List ℕ) (r : List Entry) (k : ℕ) → length old ≡ wholeSize f → memoryAt + k ≡ length old → now′ ≡ frontBytes f r ++ memoryIn (putMid memoryAt k old memory) → now′ ≡ bytesOf f (both memory r)
+part-placed f old now′ memory r k h e g = placed f old (putMid memoryAt k old memory) now′ memory r h (part-put old memory k e) g

@@ -8,6 +8,7 @@ use Rattle.image.specs.Writing as writing
 use Rattle.image.specs.Writing.{numberOf}
 use Rattle.image.specs.declared.ImageAnswer.{ImageAnswer}
 use Rattle.image.specs.declared.ImageAnswer.the-variants.{Done, InvalidEntry}
+use Rattle.holder_images.specs.Reading as holding
 use Rattle.image_calls.specs.Lists.{Returned}
 use Rattle.journal_calls.specs.Calls.{Left}
 use Rattle.promises.specs.Determined.{Determined, EachDetermined}
@@ -37,6 +38,10 @@ each-determined = record {
       let a = number-tells (x .answer) (y .answer) (ap (λ (z : Handed). z .number) (h ∙ sym k)) in
       let s = ap (λ (z : Handed). z .state) (h ∙ sym k) in
       (λ i. record { answer = a i; state = s i });
+  holders-read = λ w x y h k.
+      let e = h ∙ sym k in
+      let a = number-tells (x .answer) (y .answer) (ap (λ (z : holding.Handed). z .number) e) in
+      (λ i. record { answer = a i; state = e i .state; lowest = e i .lowest });
   image-written = λ w x y h k.
       let a = number-tells (x .0) (y .0) (ap (λ (z : writing.Written). z .number) (h ∙ sym k)) in
       let l = ap (λ (z : writing.Written). z .bytes) (h ∙ sym k) in

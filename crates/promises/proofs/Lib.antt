@@ -8,6 +8,7 @@ pub mod Images
 pub mod Lines
 pub mod Program
 pub mod ImagePromises
+pub mod HolderImages
 pub mod ScriptPromises
 pub mod PagePromises
 pub mod ListPromises

@@ -16,6 +16,8 @@ use Rattle.holder_rules.specs.declared.HolderAllocator.{HolderAllocator}
 use Rattle.holder_lists.specs.Accounts.{FreeLists}
 use Rattle.holder_lists.specs.declared.Whose.{Whose}
 use Rattle.holder_ranges.specs.Holdings as ranges
+use Rattle.holder_images.specs.Reading as holding
+use Rattle.holder_images.specs.declared.HolderReading.{HolderReading}
 use Rattle.account_state.specs.declared.Account.{Account}
 use Rattle.account_state.specs.declared.Entered.{Entered}
 use Rattle.batch.specs.Lists.{Serves, Served}
@@ -62,6 +64,7 @@ pub record EachDetermined : Type 1 where
   pub sound-list-served : (n : ℕ) (s : Account) (l : List ℕ) (old : List ℤ) → Determined (λ (x : Account × List ℤ). Served n s l old (x .0) (x .1))
   -- images
   pub image-read : (w : Handed) → Determined (λ (r : Reading). handed (r .answer) (r .state) ≡ w)
+  pub holders-read : (w : holding.Handed) → Determined (λ (r : HolderReading). holding.handed (r .answer) (r .state) (r .lowest) ≡ w)
   pub image-written : (w : Written) → Determined (λ (x : ImageAnswer × List ℕ). written (x .0) (x .1) ≡ w)
   -- the C calls: the number, and every byte of the image; for a list every place too
   pub call-returned : (w : Returned) → Determined (λ (x : ℤ × List ℕ). returned (x .0) (x .1) ≡ w)

@@ -10,6 +10,7 @@ pub mod AllCalls
 pub mod Lines
 pub mod Program
 pub mod ImagePromises
+pub mod HolderImages
 pub mod ScriptPromises
 pub mod PagePromises
 pub mod ListPromises

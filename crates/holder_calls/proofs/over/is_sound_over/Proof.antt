@@ -1,15 +1,14 @@
 use Prim.Native.Nat.{ℕ, _-_}
 use mathlib.Core.List.{List}
 use mathlib.Core.Path.{_≡_, refl, ap, _∙_}
-use native.Mathlib.Omega.{arith}
 use lib.ListN.{length, take, drop}
 use Rattle.image_parts.specs.Layout.{current}
 use Rattle.holder_image.specs.Layout.{memoryAt}
 use Rattle.holder_image.specs.Bytes.{memoryIn}
 use Rattle.holder_calls.specs.Calls.{soundIn}
 use Rattle.holder_calls.proofs.Sound.{short-unsound, count-fits, judged}
-use Rattle.holder_calls.proofs.Begins.{part-is}
 use borrow.Author.Needs.{needs}
+use borrow.Rule.Slice.PartAt.{part-to-end}
 use Rattle.holder_calls.proofs.over.is_sound_over.Statement.{statement}
 use Rattle.holder_calls.proofs.over.is_sound_over.Tie as tie
 
@@ -36,7 +35,7 @@ abbrev freed : tie.After-free-ranges → List ℕ
 freed c = let x = c .before .before .before .before .before .args in take (length (x .image .now) - memoryAt) (drop memoryAt (x .image .now))
 
 all-of : (c : tie.After-free-ranges) → let x = c .before .before .before .before .before .args in freed c ≡ memoryIn (x .image .now)
-all-of c = let s = c .before .before .before .before .before in let x = s .args in part-is (x .image .now) (length (x .image .now) - memoryAt) (let p = s .pre in omega arith)
+all-of c = part-to-end (c .before .before .before .before .before .args .image .now) memoryAt
 
 enum-known-count : tie.Need-enum-known-count
 enum-known-count c = search needs

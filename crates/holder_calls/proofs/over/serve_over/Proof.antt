@@ -7,9 +7,9 @@ use mir.Facts.{toZ-ofZ}
 use Rattle.image_parts.specs.Layout.{current}
 use Rattle.c_over.specs.CCalls.{returned}
 use Rattle.holder_image.specs.Bytes.{memoryIn, headed}
+use Rattle.holder_image.proofs.Parts.{headed-size}
 use Rattle.holder_serve.specs.Made.{requested}
 use Rattle.holder_calls.specs.Calls.{soundIn}
-use Rattle.holder_calls.proofs.Begins.{headed-size}
 use Rattle.holder_calls.proofs.Ladders.{not-headed, not-sound, sound-served}
 use borrow.Author.Needs.{needs}
 use Rattle.holder_calls.proofs.over.serve_over.Statement.{statement}

@@ -1,0 +1,4 @@
+-- Laws of the image by value.
+pub mod Current
+pub mod Ways
+pub mod Rounds
