@@ -21,7 +21,7 @@ use Rattle.holder_laws.proofs.Inserted.{inserted→, inserted←, sum-i
 use Rattle.holder_laws.proofs.Outcomes.{Kept, Accepts, Comes, refusal, offers, gives-back, takes, comes}
 use Rattle.holder_laws.proofs.Keeps.{Byte, no-byte, inside, inside→, inside←, not-met, free-after, gone, gone-in, rest-in, rest-clear, gone-piece, entered, piece-clear}
 
-is-false : (p : Bool) → (T p → ⊥) → p ≡ false
+pub is-false : (p : Bool) → (T p → ⊥) → p ≡ false
 is-false p f = T-false p (not-T p f)
 
 and-false : (a : Bool) → (a && false) ≡ false

@@ -12,7 +12,7 @@ use Rattle.rules.specs.Rules.{top, Range, Book, empty, sum, total, listing, any
 use Rattle.rules.specs.Sound.{In, Pairwise, Sound}
 use Rattle.rules_laws.proofs.Lists.{if, T-true, T-false, T-no}
 use Rattle.rules_laws.proofs.Kept.{empty-sound}
-use Rattle.rules_laws.proofs.Bytes.{sound-total, sound-same}
+use Rattle.rules_laws.proofs.Bytes.{count-none, sound-total, sound-same}
 use Rattle.rules_laws.proofs.Shelf.{same-shelf}
 use Rattle.rules_engine.specs.Engine.{Engine, freeIn}
 use Rattle.rules_engine.specs.Demand.{SameFree, SameShelves}
@@ -28,6 +28,8 @@ use Rattle.holder_laws.proofs.Keeps.{step-keeps, free-not-held}
 use Rattle.holder_laws.proofs.Bytes.{held→, book-is, comes-free, comes-held, comes-covers, comes-conserved}
 use Rattle.holder_laws.proofs.Lists.{comes-list}
 use Rattle.holder_laws.proofs.HandBack.{comes-back}
+use Rattle.holder_laws.proofs.Offers.{comes-once, brought-stays, brought-counted}
+use Rattle.holder_laws.proofs.Told.{told-by-own, allocate-told}
 
 -- a voucher more, before the others
 earlier : (g : Voucher → Bool) (v : Voucher) (x : ℕ) (d : Bool) (m : Option Voucher)
@@ -162,6 +164,8 @@ module _ {n : ℕ} {e : Engine} (f : Obeys n e) where
           free-not-held f (left e m cs) κ x (subst (λ (b : Book). T (freeAt b x)) (book-is f (left e m cs) κ) t) (w .0) (w .1) (w .3);
       total-counts = λ cs. total-now (left e m cs) (kept-left cs);
       conserved = λ cs. let g = grows (nothing e m) cs (nothing-kept m) in let c = counts-now (left e m cs) (kept-left cs) in let s = first-sum in omega arith;
+      offered-once = λ cs c x t. comes-once f (left e m cs) (kept-left cs) c (step e c (left e m cs)) (comes f (left e m cs) (kept-left cs) c) x (brought-stays f (nothing e m) cs (nothing-kept m) x (inr t));
+      offered-bytes = λ cs. let b = brought-counted f (nothing e m) cs (nothing-kept m) (λ x. false) (λ x t. absurd t) in let z = count-none top in omega arith;
       covers-only = λ cs c x. comes-covers f (left e m cs) (kept-left cs) c (step e c (left e m cs)) (comes f (left e m cs) (kept-left cs) c) x;
       same-ranges = λ cs ds s. same-now (left e m cs) (left e m ds) (kept-left cs) (kept-left ds) s .0;
       same-shelves = λ cs ds s. same-now (left e m cs) (left e m ds) (kept-left cs) (kept-left ds) s .1;
@@ -170,4 +174,6 @@ module _ {n : ℕ} {e : Engine} (f : Obeys n e) where
           (w .0, w .1 ∙ ap listing (sym (book-is f (left e m cs) κ)), w .2);
       others = λ cs c h. others (left e m cs) (kept-left cs) h c;
       own-list = λ cs h. own-calls h (nothing e m) cs (nothing-kept m) ∙ ap (λ (l : List Range). own h l (kept e m cs)) (first-list h);
+      told-by-own = λ cs h s z. told-by-own f (left e m cs) (kept-left cs) h s z;
+      allocate-told = λ cs ds. allocate-told f (left e m cs) (left e m ds) (kept-left cs) (kept-left ds);
     }

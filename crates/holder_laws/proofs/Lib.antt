@@ -6,4 +6,6 @@ pub mod Keeps
 pub mod Bytes
 pub mod Lists
 pub mod HandBack
+pub mod Offers
+pub mod Told
 pub mod Demand

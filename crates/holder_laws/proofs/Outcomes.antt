@@ -20,7 +20,7 @@ use Rattle.holder_rules.specs.Register.{known, held, full, enter, yours, leave}
 use Rattle.holder_rules.specs.Holders.{Holding, both, Answer, accepted, refused, refuse, unlessRefused, unlessOther, offer, giveBack, piece, takeAs, take, asked, Call, Offer, By, step}
 use Rattle.holder_rules.specs.Sound.{SoundRegister}
 
-not-not : (t : Bool) → T (not (not t)) → T t
+pub not-not : (t : Bool) → T (not (not t)) → T t
 not-not true x = tt
 not-not false x = x
 

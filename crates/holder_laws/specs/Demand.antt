@@ -1,17 +1,17 @@
 -- Demands 2 and 3 as request T-07 reads them, sentence by sentence, of the register over any allocator: from nothing free and nothing held, with m entries, after any
 -- list of calls. Assumes nothing.
 use Prim.Native.Nat.{ℕ, _+_, _-_}
-use mathlib.Core.Bool.{Bool, false, not}
+use mathlib.Core.Bool.{Bool, false, not, _||_}
 use mathlib.Core.List.{List, []}
 use mathlib.Core.Logic.{_≢_}
 use mathlib.Core.Path.{_≡_}
-use lib.Dec.{T}
+use lib.Dec.{T, eqb}
 use Rattle.rules.specs.Rules as rules
-use Rattle.rules.specs.Rules.{top, sum, listing, total, frees, from, past, back, count}
+use Rattle.rules.specs.Rules.{top, sum, listing, total, any, Free, Allocate, frees, from, past, back, count}
 use Rattle.rules_engine.specs.Engine.{Engine, freeIn}
 use Rattle.rules_engine.specs.Demand.{SameFree, SameShelves}
-use Rattle.holder_rules.specs.Register.{held, listOf}
-use Rattle.holder_rules.specs.Holders.{Holding, nothing, Call, Offer, By, below, step, Voucher, voucher, run, trail, covers, lastCovering, said, wasFree, wasTakeOf, isOf, heldAt, offered, own}
+use Rattle.holder_rules.specs.Register.{held, exactly, listOf}
+use Rattle.holder_rules.specs.Holders.{Holding, nothing, Call, Offer, By, below, step, Voucher, voucher, run, trail, covers, lastCovering, said, wasFree, wasTakeOf, isOf, heldAt, offered, brings, brought, own}
 use Rattle.holder_rules.specs.Sound.{SoundRegister}
 
 module _ (e : Engine) (m : ℕ) where
@@ -25,6 +25,10 @@ module _ (e : Engine) (m : ℕ) where
   -- the allocator's state is sound, and the register beside its free ranges
   abbrev pub SoundHolding : Holding (e .State) → Type 0
   SoundHolding k = e .Sound (k .memory) × SoundRegister (e .book (k .memory) .chain) (k .register)
+
+  -- the number of the answer to the call after these
+  abbrev pub answered : Call → List Call → ℕ
+  answered c cs = step e c (left cs) .number
 
   -- what h's accepted call c leaves, and the call of g that hands its bytes back
   abbrev pub after : ℕ → rules.Call → List Call → Holding (e .State)
@@ -48,6 +52,10 @@ module _ (e : Engine) (m : ℕ) where
     pub total-counts : (cs : List Call) → e .total (left cs .memory) ≡ count top (freeIn e (left cs .memory))
     -- "the total plus the held bytes equals the bytes the board has offered, counted from accepted calls".
     pub conserved : (cs : List Call) → e .total (left cs .memory) + sum (held (left cs .register)) ≡ offered (kept cs)
+    -- A byte is offered once in all: an accepted offer covers no byte that an earlier one covers,
+    pub offered-once : (cs : List Call) (c : Call) (x : ℕ) → T (brought (kept cs) x) → brings (voucher c (step e c (left cs))) x ≡ false
+    -- so the bytes that the board has offered may as well be counted one by one.
+    pub offered-bytes : (cs : List Call) → offered (kept cs) ≡ count top (brought (kept cs))
     -- An accepted take covers only free bytes, an accepted free none.
     pub covers-only : (cs : List Call) (c : Call) (x : ℕ) → T (covers (voucher c (step e c (left cs))) x) → freeIn e (left cs .memory) x ≡ not (frees (below c))
     -- Two lists of calls that leave the same bytes free leave the same ranges;
@@ -63,3 +71,7 @@ module _ (e : Engine) (m : ℕ) where
     pub others : (cs : List Call) (c : Call) (h : ℕ) → T (not (isOf h c)) → listOf h (step e c (left cs) .holding .register) ≡ listOf h (left cs .register)
     -- and is what its own accepted calls make of the empty one.
     pub own-list : (cs : List Call) (h : ℕ) → listOf h (left cs .register) ≡ own h [] (kept cs)
+    -- Whether a free is refused with 4 or 5 is told by its holder's own list alone: exactly if the range is not on it. (A number that is no holder's has nothing on its list.)
+    pub told-by-own : (cs : List Call) (h s z : ℕ) → (eqb (answered (By h (Free s z)) cs) 4 || eqb (answered (By h (Free s z)) cs) 5) ≡ not (any (exactly s z) (listOf h (left cs .register)))
+    -- Whether an allocate is refused with 4 is told by holder, size and order alone.
+    pub allocate-told : (cs ds : List Call) (h z o : ℕ) → eqb (answered (By h (Allocate z o)) cs) 4 ≡ eqb (answered (By h (Allocate z o)) ds) 4

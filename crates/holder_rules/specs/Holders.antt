@@ -1,6 +1,6 @@
 -- The calls of request T-07: what each answers, and what it leaves. Below the register stands an engine, whatever answers the allocator's calls: it is asked
 -- as it is, and only its number, its address and its next state are read. (An unsound state, 2, stands in specs/States.antt.) Assumes nothing.
-use mathlib.Core.Bool.{Bool, true, false, cond, not, _&&_}
+use mathlib.Core.Bool.{Bool, true, false, cond, not, _&&_, _||_}
 use mathlib.Core.List.{List, [], _∷_}
 use mathlib.Core.Option.{Option, none, some}
 use Prim.Native.Nat.{ℕ, _+_, _-_}
@@ -170,6 +170,14 @@ offeredBy v = cond (isOffer (v .call) && isAccepted v) (past (below (v .call)) 0
 unfoldable pub offered : List Voucher → ℕ
 offered [] = 0
 offered (v ∷ vs) = offeredBy v + offered vs
+
+-- an accepted offer, and it covers the byte x; some call of the list was one
+abbrev pub brings : Voucher → ℕ → Bool
+brings v x = isOffer (v .call) && covers v x
+
+unfoldable pub brought : List Voucher → ℕ → Bool
+brought [] x = false
+brought (v ∷ vs) x = brings v x || brought vs x
 
 -- the list without its range of z bytes from s
 unfoldable pub lacking : ℕ → ℕ → List Range → List Range

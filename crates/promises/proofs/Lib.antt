@@ -6,6 +6,7 @@ pub mod Lent
 pub mod Own
 pub mod Images
 pub mod Lines
+pub mod HolderLines
 pub mod Program
 pub mod ImagePromises
 pub mod HolderImages

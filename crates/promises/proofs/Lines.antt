@@ -27,7 +27,8 @@ use Rattle.script_lines.specs.declared.parse.Line.the-variants as Say
 use Rattle.script_answers.specs.Script.{textOf, stateAfter}
 use Rattle.script_chunks.specs.Input.{Told, silent, ends, joined, heard}
 use Rattle.promises.specs.Clients.{leftBy, keptBy, ClientDemand}
-use Rattle.promises.specs.Lines.{lineRenews, lineGives, lineClient, linesFrom, textsOf, inputLeft, inputKept, InputDemand, beginsRegister, holdersLine, holderLinesFrom, holdersLeft, holderTexts}
+use Rattle.promises.specs.Lines.{lineRenews, lineGives, lineClient, linesFrom, textsOf, inputLeft, inputKept, InputDemand}
+use Rattle.promises.specs.HolderLines.{beginsRegister, holdersLine, holderLinesFrom, holdersLeft, holderTexts}
 use Rattle.promises.proofs.Clients.{Plays, client-demand}
 
 -- ---- the lines

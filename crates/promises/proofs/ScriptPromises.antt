@@ -4,6 +4,7 @@ use Rattle.linked_lists.specs.Links.{none}
 use Rattle.script_sessions.proofs.Books.{all-answered, always-beginning}
 use Rattle.promises.specs.ScriptPromises.{ScriptPromises}
 use Rattle.promises.proofs.Lines.{heard-lines, heard-holders, input-demand}
+use Rattle.promises.proofs.HolderLines.{at-desk}
 
 pub script-promises : (n : ℕ) → n ≤ none → ScriptPromises n
 script-promises n small = record {
@@ -12,4 +13,5 @@ script-promises n small = record {
   heard-lines = heard-lines n;
   heard-holders = heard-holders n;
   books-close = input-demand n small;
+  holders-close = at-desk n small;
 }

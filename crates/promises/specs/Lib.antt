@@ -8,6 +8,7 @@ pub mod Own
 pub mod Images
 pub mod AllCalls
 pub mod Lines
+pub mod HolderLines
 pub mod Program
 pub mod ImagePromises
 pub mod HolderImages

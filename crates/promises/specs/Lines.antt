@@ -15,11 +15,6 @@ use Rattle.script_lines.specs.Script.{lineOf}
 use Rattle.script_lines.specs.declared.parse.Line.{Line}
 use Rattle.script_lines.specs.declared.parse.Line.the-variants as Say
 use Rattle.script_answers.specs.Script.{textOf, stateAfter}
-use Rattle.holder_rules.specs.declared.HolderAllocator.{HolderAllocator}
-use Rattle.holder_lines.specs.Lines.{holderLineOf}
-use Rattle.holder_lines.specs.declared.HolderLine.{HolderLine}
-use Rattle.holder_answers.specs.Answers.{holderText, holderAfter}
-use Rattle.script_forms.specs.Forms.{opens}
 use Rattle.promises.specs.Clients.{Client, leftBy, keptBy}
 
 -- no line begins anew
@@ -55,26 +50,3 @@ inputKept n l = keptBy (states n) (lineClient n) (stateOf n empty) [] (linesFrom
 -- demand 3 of the script: the histories are inputs, byte by byte
 abbrev pub InputDemand : ℕ → Type 0
 InputDemand n = DemandOf (states n) (List ℕ) (inputLeft n) (inputKept n)
-
--- ---- the register's forms
-
--- the first line of an input, where a newline has ended it, is `holders`; p is what was read of it before
-unfoldable pub beginsRegister : List ℕ → List ℕ → Bool
-beginsRegister p [] = false
-beginsRegister p (b ∷ l) = cond (eqb b 10) (opens p) (beginsRegister (p ++ (b ∷ [])) l)
-
--- `holders` and a newline
-abbrev pub holdersLine : List ℕ
-holdersLine = 104 ∷ 111 ∷ 108 ∷ 100 ∷ 101 ∷ 114 ∷ 115 ∷ 10 ∷ []
-
-unfoldable pub holderLinesFrom : List ℕ → List ℕ → List HolderLine
-holderLinesFrom p [] = []
-holderLinesFrom p (b ∷ l) = cond (eqb b 10) (holderLineOf p ∷ holderLinesFrom [] l) (holderLinesFrom (p ++ (b ∷ [])) l)
-
-unfoldable pub holderTexts : ℕ → HolderAllocator → List HolderLine → List ℕ
-holderTexts n s [] = []
-holderTexts n s (l ∷ ls) = holderText n s l ++ holderTexts n (holderAfter n s l) ls
-
-unfoldable pub holdersLeft : ℕ → HolderAllocator → List HolderLine → HolderAllocator
-holdersLeft n s [] = s
-holdersLeft n s (l ∷ ls) = holdersLeft n (holderAfter n s l) ls

@@ -9,7 +9,8 @@ use Rattle.holder_rules.specs.States.{newOf}
 use Rattle.script_forms.specs.Forms.{Desk, desk}
 use Rattle.script_sessions.specs.Sessions.{Run, toldOf, outputOf}
 use Rattle.script_sessions.specs.declared.Session.{Session}
-use Rattle.promises.specs.Lines.{beginsRegister, linesFrom, textsOf, inputLeft, InputDemand, holdersLine, holderLinesFrom, holdersLeft, holderTexts}
+use Rattle.promises.specs.Lines.{linesFrom, textsOf, inputLeft, InputDemand}
+use Rattle.promises.specs.HolderLines.{beginsRegister, holdersLine, holderLinesFrom, holdersLeft, holderTexts, AtDesk}
 
 pub record ScriptPromises (n : ℕ) : Type 0 where
   -- once the input has ended, all that was handed to the writer is the output for what was read;
@@ -23,3 +24,5 @@ pub record ScriptPromises (n : ℕ) : Type 0 where
   pub heard-holders : (l : List ℕ) → (toldOf n (holdersLine ++ l) .state ≡ desk 2 (holdersLeft n (newOf n) (holderLinesFrom [] l))) × (toldOf n (holdersLine ++ l) .text ≡ holderTexts n (newOf n) (holderLinesFrom [] l))
   -- demand 3 of document 01's lines
   pub books-close : InputDemand n
+  -- demands 2 and 3 of the register's
+  pub holders-close : AtDesk n

@@ -14,7 +14,7 @@ use Rattle.rules_laws.proofs.Kept.{free→, free←}
 
 -- ---- the total
 
-count-none : (m : ℕ) → count m (λ x. false) ≡ 0
+pub count-none : (m : ℕ) → count m (λ x. false) ≡ 0
 unfolding count
 count-none zero = refl
 count-none (suc m) = omega (arith, count-none m)

@@ -9,3 +9,4 @@ pub mod Facts
 pub mod Shelf
 pub mod Sums
 pub mod Multiples
+pub mod Fours

@@ -40,6 +40,10 @@ pub or-r : (a b : Bool) → T b → T (a || b)
 or-r true b t = tt
 or-r false b t = t
 
+pub or-false : (a b : Bool) → b ≡ false → (a || b) ≡ a
+or-false true b e = refl
+or-false false b e = e
+
 pub not-and : (a b : Bool) → T (not (a && b)) → T a → T (not b)
 not-and true b t s = t
 not-and false b t s = absurd s

@@ -69,7 +69,7 @@ module _ (n : ℕ) (small : n ≤ none) where
     subst (λ (b : Book). SoundRegister (b .chain) (k .register)) (sym (book-is by-book k κ)) (κ .register),
   )
 
-  stepped : (c : Call) (s : HolderAllocator) → Sound n s → Sound n (made n s c .state)
+  pub stepped : (c : Call) (s : HolderAllocator) → Sound n s → Sound n (made n s c .state)
   stepped c s h =
       subst (λ (o : HolderOutcome). Sound n (o .state)) (sound-made n s c (passes n small s h))
       (sound-again (step (states n) c (holdingOf s) .holding) (step-keeps by-book c (holdingOf s) (kept (holdingOf s) h)))

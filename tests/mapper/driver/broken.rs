@@ -19,8 +19,10 @@ const MISTAKES: &[(&str, Map)] = &[
 
 /// The map with the mistake that is named; the real one where none is.
 pub fn chosen(name: Option<String>) -> Map {
-    let Some(name) = name else { return World::map };
-    MISTAKES.iter().find(|(known, _)| **known == name).unwrap_or_else(|| panic!("no mistake {name}")).1
+    match name {
+        Some(name) => MISTAKES.iter().find(|(known, _)| **known == name).unwrap_or_else(|| panic!("no mistake {name}")).1,
+        None => World::map,
+    }
 }
 
 fn one_too_many(world: &mut World, ask: Ask) -> i64 {
