@@ -46,10 +46,10 @@ fn one_free_page(world: &mut World, empty: &[u8]) {
 #[rustfmt::skip]
 const ROWS: &[Row] = &[
     Row { name: "size 0", change: |_, a| a.size = 0, answer: -4, is_so: |s| s.is_ok && s.mapped() == 1 << 32 },
-    Row { name: "an input past the last", change: |w, a| { w.vtcr = 0x59; a.input = 1 << 39 }, answer: -4, is_so: |s| s.is_ok && s.first().is_some_and(|f| f.input == 0) },
+    Row { name: "an input past the last", change: |w, a| { w.vtcr = 0x59; a.input = 1 << 39 }, answer: -4, is_so: |s| s.is_ok && s.first().map_or(false, |f| f.input == 0) },
     Row { name: "a range past the last input", change: |_, a| { a.input = (1 << 32) - PAGE; a.size = 2 * PAGE }, answer: -4, is_so: |s| s.is_ok && s.mapped() == PAGE },
-    Row { name: "an output past 2^48", change: |_, a| a.output = 1 << 48, answer: -4, is_so: |s| s.is_ok && s.first().is_some_and(|f| f.output == 0) },
-    Row { name: "an output in a page", change: |_, a| a.output += 2048, answer: -4, is_so: |s| s.is_ok && s.first().is_some_and(|f| f.attributes != 0x7fc) },
+    Row { name: "an output past 2^48", change: |_, a| a.output = 1 << 48, answer: -4, is_so: |s| s.is_ok && s.first().map_or(false, |f| f.output == 0) },
+    Row { name: "an output in a page", change: |_, a| a.output += 2048, answer: -4, is_so: |s| s.is_ok && s.first().map_or(false, |f| f.attributes != 0x7fc) },
     Row { name: "a block in the way", change: |w, a| { w.arena[0] = 0x4_0000_07fd; a.input = PAGE }, answer: -4, is_so: |s| s.is_ok && s.mapped() == PAGE },
     Row { name: "a table that is reached twice", change: |w, a| { w.arena[2] = table(1); w.arena[3] = table(1); a.input = 2 << 30 }, answer: -2, is_so: |s| s.is_ok && s.mapped() == 2 * PAGE },
     Row { name: "a table on free bytes", change: |w, _| w.arena[3] = table(8), answer: -2, is_so: |s| s.is_ok && s.arena[0] == s.arena[3] },
