@@ -3,6 +3,9 @@
 Rattle compiles for x86-64, and there everything is made and run on the machine itself. On Arm the tests run whole on the
 machine itself, over the archive for bare machines that tools/archives makes of the same module; then a bounded part of them runs
 over the one for machines with their MMU on, and over the x86-64 archive, compiled across and emulated.
+
+Every Rust program of a test is made by Debian's own rustc, by its path: another one on the PATH need not have the standard library of another
+machine, and a form that only a newer one takes is refused on every machine, not only where programs are compiled across.
 """
 
 import hashlib
@@ -18,6 +21,9 @@ PROJECT = Path(__file__).resolve().parents[1]
 OPTIMISED = ("--edition", "2021", "-O", "-C", "debug-assertions=off", "-C", "overflow-checks=off")
 
 
+RUSTC = "/usr/bin/rustc"
+
+
 class Failed(Exception):
     """Something could not be made or found; the text says what, and what to do."""
 
@@ -27,7 +33,7 @@ class Machine:
     name: str
     archive: Path
     elf_number: int  # of the machine, in the header of every object file
-    compiler: tuple = ("rustc",)
+    compiler: tuple = (RUSTC,)
     gcc_prefix: str = ""
     runner: tuple = ()  # the words before a program
     is_whole: bool = True  # otherwise a bounded part of the tests is run
@@ -77,10 +83,9 @@ X86_64 = Machine("x86-64", archive_of("x86_64"), 62)
 ARM = Machine("aarch64", archive_of("aarch64"), 183)
 ARM_MMU = Machine("aarch64-mmu", archive_of("aarch64-mmu"), 183, is_whole=False)
 
-# Debian's own rustc, by its path: another one on the PATH need not have the standard library of another machine.
 EMULATED_X86_64 = replace(
     X86_64,
-    compiler=("/usr/bin/rustc", "--target", "x86_64-unknown-linux-gnu", "-C", "linker=x86_64-linux-gnu-gcc"),
+    compiler=(RUSTC, "--target", "x86_64-unknown-linux-gnu", "-C", "linker=x86_64-linux-gnu-gcc"),
     gcc_prefix="x86_64-linux-gnu-",
     runner=("qemu-x86_64",),
     is_whole=False,

@@ -3,6 +3,7 @@
 #   keep_module CRATE             proves CRATE and leaves its module as text in target/module/CRATE/x86_64.ll, and the words
 #                                 that Rattle gave its clang beside it
 #   keep_program CRATE            the same of a program, which leaves target/bin/CRATE too
+#   keeping_all WORD..            runs rt with these words, and leaves the same of every program that it makes
 #   retarget CRATE [KIND]         leaves the same for a kind of Arm machine, aarch64 where none is named, in target/module/CRATE/KIND.ll
 #   compile CRATE KIND TEXT OBJECT [WORD..]
 #                                 compiles such a text by the words kept for CRATE and those named, for a kind of machine
@@ -45,30 +46,36 @@ link_all() {
   done
 }
 
-# keeping_clang CLANG FOLDER: a clang that leaves its words and its module in FOLDER and then does as CLANG does
+# keeping_clang CLANG FOLDER: a clang that does as CLANG does, and leaves in a folder of its own below FOLDER its words, its module and the object
 keeping_clang() {
   cat <<END
 #!/bin/sh
-printf '%s\n' "\$@" >'$2/words'
+'$1' "\$@" || exit
+into=\$(mktemp -d '$2/XXXXXX') || exit
+printf '%s\n' "\$@" >"\$into/words"
 before=
 for word in "\$@"; do
-  [ "\$before" != ir ] || cp "\$word" '$2/module.bc'
+  case \$before in
+  ir) cp "\$word" "\$into/module.bc" ;;
+  -o) cp "\$word" "\$into/object" ;;
+  esac
   before=\$word
 done
-exec '$1' "\$@"
 END
 }
 
 # A kit of links to the real one, with the keeping clang in it: `rt` itself then says how a crate is compiled.
 make_keeping_kit() {
   local here
+  rm -rf "$work/kept"
+  mkdir "$work/kept"
   [ ! -d "$work/kit" ] || return 0
   here=on/$(uname -m)
   link_all "$kit" on "$work/kit"
   link_all "$kit/$here" toolchain "$work/kit/$here"
   link_all "$kit/$here/toolchain" bin "$work/kit/$here/toolchain"
   link_all "$kit/$here/toolchain/bin" clang "$work/kit/$here/toolchain/bin"
-  keeping_clang "$clang" "$work" >"$work/kit/$here/toolchain/bin/clang"
+  keeping_clang "$clang" "$work/kept" >"$work/kit/$here/toolchain/bin/clang"
   chmod +x "$work/kit/$here/toolchain/bin/clang"
 }
 
@@ -89,17 +96,34 @@ keep_program() {
 
 # keep_of CRATE WORD: by this word of rt
 keep_of() {
-  local kept=target/module/$1
   make_keeping_kit
-  rm -f "$work/module.bc"
   RATTLE_HOME=$work/kit rt "$2" "$1" </dev/null 2>&1 | tee "$work/said" | progress
   [ "${PIPESTATUS[0]}" -eq 0 ] || { tell "$(cat "$work/said")"; fail "$1 could not be made: the words of rt stand above"; }
-  [ -f "$work/module.bc" ] || fail "rt made $1 without handing a module to clang; is it another kit than kit-id names?"
-  mkdir -p "$kept"
-  cp "$work/words" "$kept/words"
-  "$clang" "$(grep '^--target=' "$kept/words")" -x ir "$work/module.bc" -S -emit-llvm -Xclang -disable-llvm-passes \
-    -o "$kept/x86_64.ll"
-  digest tools/module.sh >"$kept/of"
+  [ -f "$work"/kept/*/module.bc ] || fail "rt made $1 without handing a module to clang; is it another kit than kit-id names?"
+  store_module "$1" "$work"/kept/*
+}
+
+# store_module CRATE FOLDER: what the keeping clang left there, as text
+store_module() {
+  local stored=target/module/$1
+  mkdir -p "$stored"
+  cp "$2/words" "$stored/words"
+  "$clang" "$(grep '^--target=' "$stored/words")" -x ir "$2/module.bc" -S -emit-llvm -Xclang -disable-llvm-passes \
+    -o "$stored/x86_64.ll"
+  digest tools/module.sh >"$stored/of"
+}
+
+# keeping_all WORD..: rt with these words, and as it ends; of each program that it makes the module is kept too
+keeping_all() {
+  local status=0 folder object
+  make_keeping_kit
+  RATTLE_HOME=$work/kit rt "$@" || status=$?
+  for folder in "$work"/kept/*/; do
+    for object in target/obj/*.o; do
+      ! cmp -s "$object" "$folder/object" || store_module "$(basename "$object" .o)" "$folder"
+    done
+  done
+  return "$status"
 }
 
 declare -A own_lines=() # of each kind, the lines of a module that name its target
