@@ -129,7 +129,7 @@ Measured on: {results.processor}. {versions}.
   copies the image or the state can tell the difference.
 - **{lists}** is `cinghjalofa_batch`, in the crate `LentAllocator::serve`: the same once for a list, and the calls of the
   list in place between reading and writing. The table has lists of {stretch} calls.
-- **{checked}** is `MemoryAllocator`, in C `cinghjalofa_own_allocate` and the like: ten fields in the caller's memory, which each
+- **{checked}** is `MemoryAllocator`, in C `cinghjalofa_own_allocate` and the like: eleven fields in the caller's memory, which each
   call checks whole, and then works on in place.
 - **{unchecked}** is `UncheckedAllocator`, in C `cinghjalofa_own_allocate_unchecked` and the like: the same without the check.
 - **{own_lists}** is `MemoryAllocator::serve`, in C `cinghjalofa_own_batch`: one check for a list, and its calls in place.

@@ -345,7 +345,7 @@ int64_t cinghjalofa_audit(const uint8_t *journal, size_t len, uint64_t *figure);
  *   cinghjalofa_own_CALL_unchecked  does not ask. It is to be called of a sound state alone: one that nothing but these
  *                                   functions has written. Of another one nothing is promised, not even that the call ends.
  * So where something else may write over the allocator's memory, the checked calls notice; where nothing can, the unchecked
- * ones take a fifth of the time.
+ * ones take an eighth to a twentieth of the time (docs/BENCHMARK.md).
  */
 struct cinghjalofa_own {
     uint64_t lowest;                            /* the lowest figure */
