@@ -1,4 +1,5 @@
 """Answers: as the program prints them and a box's log has them, or as a journal records them."""
+import itertools
 import re
 from collections import namedtuple
 
@@ -21,17 +22,18 @@ FIXED = {"ok\n": DONE, "bad\n": BAD, **{f"no {number}\n": answer for number, ans
 def taken(lines):
     """The answers of these lines, each with its end; those of a listing together."""
     lines = iter(lines)
-    for line in lines:
-        yield FIXED.get(line) or _with_numbers(line.rstrip("\n"), lines)
+    for count, line in zip(itertools.count(), lines):
+        yield FIXED.get(line) or _with_numbers(line.rstrip("\n"), lines, count)
 
 
-def _with_numbers(text, lines):
+def _with_numbers(text, lines, before):
     form = OK.fullmatch(text)
     if form:
         return Answer("ok", int(form[1]), None)
     form = LIST.fullmatch(text)
     if not form:
-        raise Unreadable(f"has a line that is no answer: {text}")
+        where = f"behind {counted(before, 'answer')}" if before else "at its beginning"
+        raise Unreadable(f"has a line that is no answer, {where}: {text}")
     return Answer("list", int(form[2]), _ranges(int(form[1]), lines))
 
 

@@ -23,7 +23,7 @@ def books(options, out):
     progress = Progress()
     held, is_recorded = read(name, "calls", lambda source: calls_or_journal_of(source, progress))
     if not is_recorded:
-        turns.refuse_register(held)
+        turns.refuse_register(held, name)
     desk = Desk(Words(options.is_hex, "block" if is_recorded else "line"))
     window = Window(held.calls) if options.pages else None
     enter_all(desk, held, is_recorded, window, out, progress)

@@ -19,7 +19,7 @@ def check(options, out):
         raise Unreadable("standard input cannot be both the calls and the answers")
     progress = Progress()
     held, answered = _read(calls, "calls", calls_alone_of, progress, out), _read(log, "answers", answers_of, progress, out)
-    turns.refuse_register(held)
+    turns.refuse_register(held, calls)
     desk = Desk(Words(options.is_hex))
     progress.what = "judged"
     for number, text, call, answer in turns.by_log(held, answered):

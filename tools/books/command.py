@@ -37,8 +37,8 @@ class Options:
                 self.is_hex = True
             elif word in ("--html", "--svg"):
                 self.pages[word] = next(words, "")
-                if self.pages[word] in ("", "-"):
-                    raise Misused(f"{word} wants the name of a file")
+                if self.pages[word] in ("", "-") or self.pages[word].startswith("--"):
+                    raise Misused(f"{word} wants the name of a file (one that begins with -- is named as ./--..)")
             else:
                 self.files.append(word)
 

@@ -5,6 +5,7 @@ from pathlib import Path
 
 import answers
 from calls import parse
+from held import called
 from reading import Unreadable
 from words import counted
 
@@ -31,12 +32,12 @@ def by_program(held, program=PROGRAM):
     raise Unanswered("the program's answers are not one for each line")
 
 
-def refuse_register(held):
+def refuse_register(held, name):
     """A first line `holders` begins other forms, of which an `f` or an `a` has one number more."""
     held.file.flush()
     with _again(held) as lines:
         if next(lines, "") == "holders\n":
-            raise Unanswered("the first line begins the forms of the register, which the books do not know")
+            raise Unanswered(f"the first line of {called(name)} begins the forms of the register, which the books do not know: ./run FILE answers them, and its lines h and l show who holds what")
 
 
 def _printed(lines):
