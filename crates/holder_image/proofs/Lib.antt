@@ -1,3 +1,4 @@
 -- Parts of the register's image.
 pub mod Parts
 pub mod Rounds
+pub mod Put
