@@ -238,8 +238,8 @@ CINGHJALOFA_INLINE const char *cinghjalofa_text(int64_t answer) {
  * allocator's image. That part may be lent to cinghjalofa_total, cinghjalofa_lowest and cinghjalofa_listing; it must not be lent to
  * a call that changes it, which knows no register.
  *
- * Each call checks length, register and allocator before all else. It takes less than 40960 bytes of stack: the allocator is asked on a
- * copy of its image, so that a refusal changes no byte.
+ * Each call checks length, register and allocator before all else. It takes less than 12288 bytes of stack: besides the fields of the state
+ * it has the register's numbers. Nothing is written before all is accepted, so that a refusal changes no byte.
  */
 #define CINGHJALOFA_HOLDERS_MEMORY 1093
 #define CINGHJALOFA_HOLDERS_IMAGE_BYTES (CINGHJALOFA_HOLDERS_MEMORY + CINGHJALOFA_IMAGE_BYTES)

@@ -8,9 +8,9 @@ from collections import Counter
 COPYING = ("memcpy", "memmove")
 FILLING = ("memset",)
 
-# No call of the allocator copies a state or an answer: fields are lent on as they are, and so are the bytes of an image. A map asks for its pages over a
-# copy of the image; the calls with holders ask the allocator over one, and hand the register on by value.
-COPIES = {"c_holders.o": 17, "mapper.o": 1}
+# No call of the allocator copies a state or an answer, nor does one with holders: fields are lent on as they are, the register's numbers too, and so are the
+# bytes of an image. A map asks for its pages over a copy of the image.
+COPIES = {"mapper.o": 1}
 # The arrays of an empty state are filled, those of ten or eleven locals or of the caller; on bare Arm the heads of the lists too, which elsewhere are a few stores.
 FILLS = {
     "c_calls.o": (14, 17),

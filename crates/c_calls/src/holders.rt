@@ -1,5 +1,5 @@
 // The calls of the register as C has them: over a lent image, with one signed number as the answer.
-use account_calls::new;
+use account_state::NEVER;
 use calls::INVALID_ENTRY;
 use holder_calls::serve_over;
 use holder_entries::unused_entry;
@@ -10,9 +10,13 @@ use holder_rules::ENTRIES;
 use holder_rules::Holder;
 use holder_rules::Register;
 use holder_serve::HolderRequest;
-use image::write_account;
+use image_writing::write_fields;
 use memory_allocator::Request;
 use pool_state::Address;
+use pool_state::LISTS;
+use pool_state::NONE;
+use pool_state::POOL;
+use pool_state::RecordIndex;
 ghost use mathlib.Core.Path.{_≡_};
 ghost use Rattle.rules.specs.Rules.{Free, Allocate, Reserve};
 ghost use Rattle.image_parts.specs.Layout.{current};
@@ -43,7 +47,25 @@ pub extern "C" fn cinghjalofa_holders_new(image: &mut [u8]) -> i64
     if image.len() != HOLDERS_IMAGE {
         return INVALID_ENTRY;
     }
-    write_account(new(), &mut image[MEMORY..]);
+    let heads = [NONE; LISTS];
+    let bytes = [0u64; POOL];
+    let unused = [false; POOL];
+    let links = [NONE; POOL];
+    write_fields(
+        &mut image[MEMORY..],
+        true,
+        NEVER,
+        0,
+        RecordIndex(NONE),
+        &heads,
+        &bytes,
+        &bytes,
+        &unused,
+        &links,
+        &links,
+        &links,
+        &links,
+    );
     write_front(image, no_entries());
     BEGUN
 }

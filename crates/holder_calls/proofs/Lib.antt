@@ -2,5 +2,8 @@
 pub mod Sound
 pub mod Begins
 pub mod Ladders
+pub mod Settled
+pub mod Machine
+pub mod Fields
 pub mod Pieces
 pub mod Doors

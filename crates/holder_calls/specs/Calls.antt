@@ -1,23 +1,27 @@
 -- What each C call of the register returns, and every byte of the image that it leaves, for every image and all numbers: request T-07's calls above the C calls of the
 -- allocator, whose image stands in this one. Assumes nothing.
 use Prim.Native.Nat.{ℕ}
-use mathlib.Core.Bool.{Bool, true, cond, _&&_}
-use mathlib.Core.List.{List, []}
+use mathlib.Core.Bool.{Bool, true, false, cond, _&&_}
+use mathlib.Core.List.{List, [], _++_}
 use mathlib.Core.Path.{_≡_}
 use lib.Dec.{eqb}
 use lib.IntN.{ℤ, pos, negℤ}
-use lib.ListN.{length}
+use lib.ListN.{length, take}
+use lib.Signed.{ltZ}
+use Rattle.rules.specs.Rules as rules
+use Rattle.bytes_be.specs.Numbers.{Bytes}
 use Rattle.calls.specs.Calls.{signedOf}
 use Rattle.calls.specs.declared.Answer.the-variants.{InvalidEntry}
 use Rattle.image_parts.specs.Layout.{Layout}
 use Rattle.image.specs.Reading.{readingOf}
+use Rattle.c_over.specs.CCalls as allocator
 use Rattle.c_over.specs.CCalls.{Returned, returned}
 use Rattle.c_over.specs.Images.{images, bookIn}
 use Rattle.holder_rules.specs.Register.{entries}
 use Rattle.holder_rules.specs.Holders.{Answer, Call, nothing, step}
 use Rattle.holder_rules.specs.Sound.{registerSound}
 use Rattle.holder_rules.specs.declared.Entry.{Entry}
-use Rattle.holder_image.specs.Layout.{wholeSize}
+use Rattle.holder_image.specs.Layout.{memoryAt, wholeSize}
 use Rattle.holder_image.specs.Bytes.{bytesOf, memoryIn, registerIn, holdingIn, headed}
 
 -- the allocator's image is that of a sound state, and the register is sound beside its free ranges
@@ -52,6 +56,22 @@ newOver f l = cond (eqb (length l) (wholeSize f)) (returned (pos 0) (bytesOf f (
 
 -- r is the register of an image that serves
 pub record Serves (f : Layout) (l : List ℕ) (r : List Entry) : Type 0 where
-  pub whole : length l ≡ wholeSize f
+  pub front : headed f l ≡ true
+  pub bytes : Bytes l
   pub sound : soundIn f (memoryIn l) r ≡ true
   pub register : r ≡ registerIn l
+
+-- and the allocator in it answers the call c by i
+pub record Asks (f : Layout) (c : rules.Call) (l : List ℕ) (r : List Entry) (i : ℤ) : Type 0 where
+  pub serves : Serves f l r
+  pub answer : i ≡ allocator.callOver f c (memoryIn l) .number
+
+-- the bytes l with those that the call c leaves of the allocator's m; as they are, where r is a refusal
+abbrev pub withMemory : Layout → rules.Call → List ℕ → ℤ → List ℕ → List ℕ
+withMemory f c m r l = cond (ltZ r (pos 0)) l (take memoryAt l ++ allocator.callOver f c m .bytes)
+
+-- The register's part of a call that comes to w, where the allocator answered i to c: r is returned, and l becomes l′. What the allocator leaves is not yet in it.
+pub record Settles (f : Layout) (c : rules.Call) (w : Answer (List ℕ)) (l : List ℕ) (i r : ℤ) (l′ : List ℕ) : Type 0 where
+  pub outcome : returned r (withMemory f c (memoryIn l) r l′) ≡ finished f w l
+  pub answer : ltZ r (pos 0) ≡ false → r ≡ i
+  pub memory : memoryIn l′ ≡ memoryIn l

@@ -1,5 +1,5 @@
 // A call of the register on the state that a lent image holds.
 mod over;
-mod serve;
+mod settle;
 
 pub use over::serve_over;

@@ -45,7 +45,7 @@ fn meets_listed(starts: &[u64], lasts: &[u64], count: usize, first: u64, last: u
 }
 
 // Of a holder, not empty, below 2^63; or the entry that is not used.
-fn is_good(e: Entry) -> bool
+pub fn is_good(e: Entry) -> bool
     ensures { λ r. ⌜ r ≡ isGood e ⌝ }
 {
     if e.holder.0 == 0 {

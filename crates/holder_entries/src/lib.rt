@@ -46,7 +46,7 @@ pub fn find_unused(register: Register) -> Place
 }
 
 // Whether the entry is the holder's, with this first byte and this size.
-fn is_handed(e: Entry, holder: Holder, address: Address, size: u64) -> bool
+pub fn is_handed(e: Entry, holder: Holder, address: Address, size: u64) -> bool
     ensures { λ r. ⌜ r ≡ hands (holder .0) (address .0) size e ⌝ }
 {
     if e.holder.0 == 0 {
@@ -94,7 +94,7 @@ pub fn with_entry(register: Register, i: EntryIndex, e: Entry) -> Register
 }
 
 // Whether the entry is used, and its range has one of `size` bytes from `address`.
-fn meets_entry(e: Entry, address: Address, size: u64) -> bool
+pub fn meets_entry(e: Entry, address: Address, size: u64) -> bool
     ensures { λ r. ⌜ r ≡ (used e && meets (address .0) (address .0 + size) (rangeOf e)) ⌝ }
 {
     if e.holder.0 == 0 {

@@ -2,17 +2,15 @@
 use Prim.Native.Nat.{ℕ, _+_, _-_, _*_, _≤_, _<_}
 use mathlib.Core.Bool.{true, false}
 use mathlib.Core.List.{List, _++_, append-nil}
-use mathlib.Core.Path.{_≡_, refl, sym, ap, _∙_}
-use native.Mathlib.Numerals.{add-one}
+use mathlib.Core.Path.{_≡_, sym, ap, _∙_}
 use native.Mathlib.Omega.{arith}
 use lib.Dec.{eqb}
-use lib.ListN.{length, getD, set, take, drop, length-append, length-take, length-drop, length-set, drop-of-length-le}
-use lib.Seq.{drop-at, drop-drop, take-add, take-take, length-take-le, getD-drop, paste, paste-zero, paste-suc, take-length}
+use lib.ListN.{length, getD, take, drop, length-append, length-take, length-drop, drop-of-length-le}
+use lib.Seq.{take-all, drop-at, drop-drop, take-add, take-take, length-take-le}
 use borrow.Author.Tests.{eq-eqb, ne-eqb, eqb-true}
 use borrow.Rule.Slice.PartMut.{putMid}
 use Rattle.bytes_be.specs.Numbers.{number}
 use Rattle.bytes_be.proofs.Laws.{length-be}
-use Rattle.pool_listing.proofs.Writing.{partly, partly-on, partly-all}
 use Rattle.image_parts.specs.Layout.{Layout, word, lengthAt, lengthSize}
 use Rattle.image_parts.specs.Read.{numberIn}
 use Rattle.image_parts.proofs.Loops as loops
@@ -73,66 +71,13 @@ module _ (f : Layout) (l : List ℕ) where
   unfolding headed
   headed-size h = eqb-true (length l) (wholeSize f) (loops.both (eqb (length l) (wholeSize f)) _ h .0)
 
--- ---- the allocator's bytes, copied out
+-- a part to the end
+pub part-is : (l : List ℕ) (k : ℕ) → length l ≤ memoryAt + k → take k (memoryIn l) ≡ memoryIn l
+part-is l k h = take-all k (memoryIn l) (let d = length-drop memoryAt l in omega arith)
 
-pub record Copying (l old now : List ℕ) (i : ℕ) : Type 0 where
-  pub within : i ≤ length old
-  pub same-length : length now ≡ length old
-  pub so-far : now ≡ partly (memoryIn l) i old
+-- ---- the allocator's bytes, written over
 
-module _ (l old : List ℕ) (h : length l ≡ memoryAt + length old) where
-  pub copy-start : Copying l old old 0
-  copy-start = record { within = omega arith; same-length = refl; so-far = refl }
-
-  sized : length (memoryIn l) ≡ length old
-  sized = let s = length-drop memoryAt l in omega arith
-
-  module _ (now : List ℕ) (i v : ℕ) (m : Copying l old now i) where
-    pub copy-on : i < length now → v ≡ getD l (memoryAt + i) 0 → Copying l old (set now i v) (i + 1)
-    copy-on b e =
-        let s = m .same-length in let z = sized in
-        record {
-          within = omega arith;
-          same-length = length-set now i v ∙ s;
-          so-far = partly-on (memoryIn l) old now i (m .so-far) 0 v (e ∙ sym (getD-drop memoryAt l i 0)) (omega arith) (omega arith);
-        }
-
-    pub copy-end : length now ≤ i → now ≡ memoryIn l
-    copy-end b =
-        let s = m .same-length in let z = sized in let w = m .within in
-        let e : i ≡ length (memoryIn l) = omega arith in
-        partly-all (memoryIn l) old now i (m .so-far) e
-        ∙ ap (λ (x : List ℕ). memoryIn l ++ x) (drop-of-length-le old {i = length (memoryIn l)} (omega arith)) ∙ append-nil (memoryIn l)
-
--- ---- and in
-
-pub record Putting (old memory now : List ℕ) (i : ℕ) : Type 0 where
-  pub within : i ≤ length memory
-  pub same-length : length now ≡ length old
-  pub so-far : now ≡ paste old memoryAt memory i
-
-module _ (old memory : List ℕ) (h : length old ≡ memoryAt + length memory) where
-  pub putting-start : Putting old memory old 0
-  putting-start = record { within = omega arith; same-length = refl; so-far = paste-zero old memoryAt memory }
-
-  module _ (now : List ℕ) (i : ℕ) (m : Putting old memory now i) where
-    pub putting-on : i < length memory → (v : ℕ) → v ≡ getD memory i 0 → Putting old memory (set now (memoryAt + i) v) (i + 1)
-    putting-on b v e =
-        record {
-          within = omega arith;
-          same-length = length-set now (memoryAt + i) v ∙ m .same-length;
-          so-far = (λ j. set (m .so-far j) (memoryAt + i) (e j)) ∙ paste-suc old memoryAt memory i 0 (omega arith) b ∙ ap (λ (j : ℕ). paste old memoryAt memory j) (sym (add-one i));
-        }
-
-    pub putting-end : length memory ≤ i → now ≡ take memoryAt old ++ memory
-    putting-end b =
-        let w = m .within in
-        let e : i ≡ length memory = omega arith in
-        m .so-far ∙ ap (λ (j : ℕ). paste old memoryAt memory j) e
-        ∙ (let p = take-length memory in let q = drop-of-length-le old {i = memoryAt + length memory} (omega arith) in (λ j. take memoryAt old ++ p j ++ q j))
-        ∙ append-nil (take memoryAt old ++ memory)
-
-pub placed : (f : Layout) (old now now′ memory : List ℕ) (r : List Entry) → length old ≡ wholeSize f → now ≡ take memoryAt old ++ memory → now′ ≡ frontBytes f r ++ memoryIn now → now′ ≡ bytesOf f (both memory r)
+placed : (f : Layout) (old now now′ memory : List ℕ) (r : List Entry) → length old ≡ wholeSize f → now ≡ take memoryAt old ++ memory → now′ ≡ frontBytes f r ++ memoryIn now → now′ ≡ bytesOf f (both memory r)
 unfolding bytesOf
 placed f old now now′ memory r h e g =
     g ∙ ap (λ (x : List ℕ). frontBytes f r ++ x) (ap memoryIn e ∙ drop-at (take memoryAt old) memory memoryAt (length-take-le memoryAt old (omega arith)))

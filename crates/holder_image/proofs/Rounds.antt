@@ -123,17 +123,17 @@ module _ (f : Layout) (r : List Entry) (m : List ℕ) where
 -- ---- read, and written again
 
 module _ (f : Layout) (l : List ℕ) (bytes : Bytes l) (h : headed f l ≡ true) where
-  told : (length l ≡ wholeSize f) × (numberIn l 0 lengthAt ≡ version) × (numberIn l lengthAt lengthSize ≡ restOf f)
+  pub head-told : (length l ≡ wholeSize f) × (numberIn l 0 lengthAt ≡ version) × (numberIn l lengthAt lengthSize ≡ restOf f)
   unfolding headed
-  told =
+  head-told =
       let p = both (eqb (length l) (wholeSize f)) (eqb (numberIn l 0 lengthAt) version && eqb (numberIn l lengthAt lengthSize) (restOf f)) h in
       let q = both (eqb (numberIn l 0 lengthAt) version) (eqb (numberIn l lengthAt lengthSize) (restOf f)) (p .1) in
       (eqb-true (length l) (wholeSize f) (p .0), eqb-true (numberIn l 0 lengthAt) version (q .0), eqb-true (numberIn l lengthAt lengthSize) (restOf f) (q .1))
 
   pub headed-length : length l ≡ wholeSize f
-  headed-length = told .0
+  headed-length = head-told .0
 
-  entry-again : (i : ℕ) → i < entries → entryBytes (entryAt l i) ≡ take entrySize (drop (entriesAt + entrySize * i) l)
+  pub entry-again : (i : ℕ) → i < entries → entryBytes (entryAt l i) ≡ take entrySize (drop (entriesAt + entrySize * i) l)
   unfolding entryBytes
   entry-again i b =
       let n = headed-length in
@@ -154,8 +154,8 @@ module _ (f : Layout) (l : List ℕ) (bytes : Bytes l) (h : headed f l ≡ true)
   unfolding frontBytes
   front-again =
       let n = headed-length in
-      let v = ap (be lengthAt) (sym (told .1)) ∙ again l 0 lengthAt bytes (omega arith) in
-      let t = ap (be lengthSize) (sym (told .2)) ∙ again l lengthAt lengthSize bytes (omega arith) in
+      let v = ap (be lengthAt) (sym (head-told .1)) ∙ again l 0 lengthAt bytes (omega arith) in
+      let t = ap (be lengthSize) (sym (head-told .2)) ∙ again l lengthAt lengthSize bytes (omega arith) in
       beside l 0 lengthAt (lengthSize + entrySize * entries) lengthAt memoryAt _ _ v
       (beside l lengthAt lengthSize (entrySize * entries) entriesAt (lengthSize + entrySize * entries) _ _ t entries-again (omega arith) (omega arith)) (omega arith) (omega arith)
 

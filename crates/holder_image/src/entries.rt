@@ -14,18 +14,21 @@ use bytes_be::read_word;
 use holder_entries::unused_entry;
 use holder_rules::ENTRIES;
 use holder_rules::Entry;
+use holder_rules::EntryIndex;
 use holder_rules::Holder;
 use holder_rules::Register;
 use pool_state::Address;
+ghost use mathlib.Core.Bool.{true};
 ghost use mathlib.Core.List.{_++_};
 ghost use mathlib.Core.Path.{_≡_};
-ghost use Prim.Native.Nat.{_*_, _≤_};
-ghost use lib.ListN.{length};
+ghost use Prim.Native.Nat.{_*_, _≤_, _<_};
+ghost use lib.ListN.{length, set};
 ghost use Rattle.image_parts.specs.Layout.{current};
 ghost use Rattle.holder_rules.specs.Register.{entries};
+ghost use Rattle.holder_rules.specs.Holders.{both};
 ghost use Rattle.pool_state.specs.Lent.{was, is};
 ghost use Rattle.holder_image.specs.Layout.{entrySize, memoryAt, wholeSize};
-ghost use Rattle.holder_image.specs.Bytes.{entryBytes, entriesBytes, frontBytes, entryIn, registerIn, memoryIn};
+ghost use Rattle.holder_image.specs.Bytes.{entryBytes, entriesBytes, frontBytes, bytesOf, entryIn, entryAt, registerIn, memoryIn, headed};
 
 fn write_entry(part: &mut [u8], e: Entry)
     requires { ⌜ length (now part) ≡ entrySize ⌝ }
@@ -34,6 +37,15 @@ fn write_entry(part: &mut [u8], e: Entry)
     put_be(&mut part[0..START], e.holder.0);
     put_word(&mut part[START..LAST], e.start.0);
     put_word(&mut part[LAST..ENTRY], e.last.0);
+}
+
+// Another entry in this place of an image.
+pub fn put_entry(image: &mut [u8], i: EntryIndex, e: Entry)
+    requires { ⌜ (headed current (now image) ≡ true) × (i .0 < entries) ⌝ }
+    ensures { λ _. ⌜ is image ≡ bytesOf current (both (memoryIn (was image)) (set (registerIn (was image)) (i .0) e)) ⌝ }
+{
+    let at = ENTRIES_AT + ENTRY * i.0;
+    write_entry(&mut image[at..at + ENTRY], e);
 }
 
 fn write_entries(part: &mut [u8], register: Register)
@@ -73,6 +85,15 @@ fn read_entry(part: &[u8]) -> Entry
     }
 }
 
+// Entry i of an image.
+pub fn entry_at(image: &[u8], i: usize) -> Entry
+    requires { ⌜ (memoryAt ≤ length (now image)) × (i < entries) ⌝ }
+    ensures { λ e. ⌜ e ≡ entryAt (was image) i ⌝ }
+{
+    let at = ENTRIES_AT + ENTRY * i;
+    read_entry(&image[at..at + ENTRY])
+}
+
 // The register in an image.
 pub fn read_register(image: &[u8]) -> Register
     requires { ⌜ memoryAt ≤ length (now image) ⌝ }
@@ -82,8 +103,7 @@ pub fn read_register(image: &[u8]) -> Register
     let mut entries = [unused; ENTRIES];
     let mut i: usize = 0;
     while i < ENTRIES {
-        let at = ENTRIES_AT + ENTRY * i;
-        let e = read_entry(&image[at..at + ENTRY]);
+        let e = entry_at(image, i);
         entries[i] = e;
         i += 1;
     }

@@ -2,4 +2,3 @@
 pub mod entries;
 pub mod head;
 pub mod layout;
-pub mod memory;

@@ -1,0 +1,2 @@
+-- Laws of the register in arrays.
+pub mod Arrays

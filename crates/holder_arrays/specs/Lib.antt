@@ -1,0 +1,2 @@
+-- What the contracts cite of the register in arrays.
+pub mod Arrays
