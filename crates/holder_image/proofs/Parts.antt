@@ -1,27 +1,22 @@
 -- Parts of the register's image: their lengths, and what is read where. Assumes nothing.
 use Prim.Native.Nat.{ℕ, _+_, _-_, _*_, _≤_, _<_}
-use mathlib.Core.Bool.{Bool, true, false, _&&_}
-use mathlib.Core.List.{List, [], _++_, append-nil, append-assoc}
-use mathlib.Core.Path.{_≡_, refl, sym, ap, _∙_}
-use native.Mathlib.Nat.{zero-add}
-use native.Mathlib.Numerals.{add-one}
+use mathlib.Core.Bool.{false}
+use mathlib.Core.List.{List}
+use mathlib.Core.Path.{_≡_, ap, _∙_}
 use native.Mathlib.Omega.{arith}
 use lib.Dec.{eqb}
-use lib.ListN.{length, getD, set, take, drop, length-append, length-take, length-drop, length-set, drop-of-length-le}
-use lib.Seq.{take-at, drop-at, drop-drop, take-add, take-take, length-take-le, getD-drop, paste, paste-zero, paste-suc, take-length}
+use lib.ListN.{length, getD, take, drop, length-append, length-take, length-drop}
+use lib.Seq.{drop-at, drop-drop, take-add, take-take}
 use borrow.Author.Tests.{eq-eqb, ne-eqb}
 use Rattle.bytes_be.specs.Numbers.{number}
 use Rattle.bytes_be.proofs.Laws.{length-be}
-use Rattle.pool_listing.specs.Listing.{written}
-use Rattle.pool_listing.proofs.Writing.{partly, partly-on, partly-all}
 use Rattle.image_parts.specs.Layout.{Layout, word, lengthAt, lengthSize}
 use Rattle.image_parts.specs.Read.{numberIn}
 use Rattle.image_parts.proofs.Parts.{length-joined}
 use Rattle.holder_rules.specs.Register.{entries, entry, blank}
-use Rattle.holder_rules.specs.Holders.{both}
 use Rattle.holder_rules.specs.declared.Entry.{Entry}
 use Rattle.holder_image.specs.Layout.{version, entriesAt, startAt, lastAt, entrySize, memoryAt, wholeSize, restOf}
-use Rattle.holder_image.specs.Bytes.{entryBytes, entriesBytes, frontBytes, bytesOf, entryIn, entryAt, memoryIn, headed}
+use Rattle.holder_image.specs.Bytes.{entryBytes, entriesBytes, entryIn, entryAt, headed}
 
 -- ---- lengths
 
