@@ -15,7 +15,7 @@ COPIES = {"mapper.o": 1}
 FILLS = {
     "c_calls.o": (14, 17),
     "c_upgrade.o": (6, 7),
-    "c_holders.o": (22, 25),
+    "c_holders.o": (12, 15),
     "door_fields.o": (6, 8),
     "door_own.o": (0, 0),
     "door_lists.o": (12, 15),

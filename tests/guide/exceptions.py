@@ -13,7 +13,7 @@ class Uncalled:
 
 
 UNCALLED = [
-    Uncalled("./test", "this suite is a step of it", "test", "for suite in tests/*/suite"),
+    Uncalled("./test", "this suite is a step of it", "test", "tests/*/suite"),
     Uncalled("tools/bench", "it measures for minutes and writes docs/", "tests/rust/suite", "tools/bench --smoke"),
 ]
 

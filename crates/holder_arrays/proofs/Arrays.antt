@@ -1,5 +1,5 @@
 -- The register that three arrays make up: its length, its entries, and that what was read into them is the register of an image. Assumes nothing.
-use Prim.Native.Nat.{ℕ, _+_, _<_}
+use Prim.Native.Nat.{ℕ, _<_}
 use mathlib.Core.List.{List}
 use mathlib.Core.Path.{_≡_, sym, ap, _∙_}
 use native.Mathlib.Nat.{zero-add}
@@ -9,7 +9,6 @@ use lib.Seq.{ext-getD}
 use Rattle.linked_lists.specs.Links.{tab}
 use Rattle.linked_lists.proofs.Laws.{length-tab, getD-tab}
 use Rattle.holder_rules.specs.Register.{entries, entry, blank}
-use Rattle.holder_rules.specs.declared.Entry.{Entry}
 use Rattle.holder_image.specs.Bytes.{entryAt, registerIn}
 use Rattle.holder_arrays.specs.Arrays.{entryOf, registerOf}
 

@@ -1,31 +1,30 @@
--- The ladders of refusals over an image, in the steps in which code takes them. f is the layout, l the image, i what the allocator's C call returned on a copy of its
--- bytes m, and m′ what it left of them. Assumes nothing.
-use Prim.Native.Nat.{ℕ, suc, _+_, _≤_, _<_}
-use mathlib.Core.Bool.{Bool, true, false, not, cond}
+-- The ladders of refusals over an image, in the steps in which code takes them. f is the layout, l the image, i what the allocator's C call returns on its bytes m, and m′
+-- what it leaves of them. Assumes nothing.
+use Prim.Native.Nat.{ℕ, suc, _+_}
+use mathlib.Core.Bool.{Bool, true, false, not}
 use mathlib.Core.List.{List, []}
 use mathlib.Core.Logic.{_≢_}
 use mathlib.Core.Path.{_≡_, refl, sym, ap, _∙_, subst}
 use native.Mathlib.Omega.{arith}
-use lib.Dec.{T, eqb, ltb→lt}
+use lib.Dec.{T, ltb→lt}
 use lib.IntN.{ℤ, pos, negsuc}
 use lib.Signed.{ltZ}
-use lib.ListN.{length}
-use borrow.Author.Tests.{eq-eqb, ne-eqb}
+use borrow.Author.Tests.{ne-eqb}
 use Rattle.rules.specs.Rules as rules
 use Rattle.rules_engine.specs.Engine.{Engine}
-use Rattle.rules.specs.Rules.{any, meets, Free, Allocate, Reserve}
-use Rattle.linked_lists.proofs.Laws.{true≢false, length-tab}
+use Rattle.rules.specs.Rules.{any, meets, Free}
+use Rattle.linked_lists.proofs.Laws.{true≢false}
 use Rattle.calls.specs.Calls.{numberFrom, voucherFrom, signedOf}
 use Rattle.calls.specs.declared.Answer.the-variants.{InvalidEntry}
 use Rattle.image_parts.specs.Layout.{Layout}
 use Rattle.c_over.specs.CCalls as allocator
 use Rattle.c_over.specs.CCalls.{Returned, returned}
 use Rattle.c_over.specs.Images.{images}
-use Rattle.holder_rules.specs.Register.{entries, known, held, full, enter, yours, leave}
-use Rattle.holder_rules.specs.Holders.{Holding, both, Answer, refused, refuse, unlessRefused, unlessOther, offer, giveBack, piece, takeAs, take, asked, Call, Offer, By, step}
+use Rattle.holder_rules.specs.Register.{known, held, full, enter, yours, leave}
+use Rattle.holder_rules.specs.Holders.{Holding, both, Answer, refused, refuse, unlessRefused, unlessOther, offer, giveBack, piece, takeAs, take, asked, Call, By, step}
 use Rattle.holder_rules.specs.declared.Entry.{Entry}
-use Rattle.holder_image.specs.Bytes.{bytesOf, entryAt, memoryIn, registerIn, holdingIn, headed}
-use Rattle.holder_calls.specs.Calls.{signed, finished, soundIn, serves, over, callOver}
+use Rattle.holder_image.specs.Bytes.{bytesOf, memoryIn, registerIn, holdingIn, headed}
+use Rattle.holder_calls.specs.Calls.{finished, soundIn, over, callOver}
 
 -- the engine whose calls are the allocator's C calls
 abbrev E : Layout → Engine
@@ -152,10 +151,6 @@ module _ (f : Layout) (l : List ℕ) (r : List Entry) (g : r ≡ registerIn l) w
 
   pub taken-is : (h : ℕ) (c : rules.Call) (x : Returned) → x ≡ finished f (take (E f) h c (both (memoryIn l) r)) l → x ≡ finished f (take (E f) h c (holdingIn l)) l
   taken-is h c x e = e ∙ ap (λ (q : List Entry). finished f (take (E f) h c (both (memoryIn l) q)) l) g
-
-  pub register-size : length r ≡ entries
-  unfolding registerIn
-  register-size = ap length g ∙ length-tab entries 0 (entryAt l)
 
 -- ---- a holder's number
 

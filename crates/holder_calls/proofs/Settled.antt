@@ -15,7 +15,7 @@ use Rattle.linked_lists.proofs.Laws.{true≢false}
 use Rattle.calls.specs.Calls.{voucherFrom}
 use Rattle.image_parts.specs.Layout.{Layout}
 use Rattle.c_over.specs.CCalls as allocator
-use Rattle.c_over.specs.CCalls.{Returned, returned}
+use Rattle.c_over.specs.CCalls.{returned}
 use Rattle.c_over.specs.Images.{images}
 use Rattle.holder_rules.specs.Register.{known, held, full, enter, yours, leave}
 use Rattle.holder_rules.specs.Holders.{Answer, both, offer, giveBack, piece, take as takes, asked, By, step}

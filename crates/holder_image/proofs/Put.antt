@@ -14,12 +14,12 @@ use borrow.Rule.Slice.PartMut.{putMid, drop-put}
 use Rattle.bytes_be.specs.Numbers.{be, Bytes}
 use Rattle.linked_lists.specs.Links.{tab}
 use Rattle.linked_lists.proofs.Laws.{same?, length-tab, getD-tab}
-use Rattle.image_parts.specs.Layout.{Layout, word, lengthAt, lengthSize}
+use Rattle.image_parts.specs.Layout.{Layout, lengthAt, lengthSize}
 use Rattle.image_parts.proofs.Places.{again, beside, joined-take}
 use Rattle.holder_rules.specs.Register.{entries, blank}
 use Rattle.holder_rules.specs.Holders.{both}
 use Rattle.holder_rules.specs.declared.Entry.{Entry}
-use Rattle.holder_image.specs.Layout.{version, entriesAt, entrySize, memoryAt, wholeSize, restOf}
+use Rattle.holder_image.specs.Layout.{entriesAt, entrySize, memoryAt}
 use Rattle.holder_image.specs.Bytes.{entryBytes, entriesBytes, frontBytes, bytesOf, entryAt, registerIn, memoryIn, headed}
 use Rattle.holder_image.proofs.Parts.{length-entry}
 use Rattle.holder_image.proofs.Rounds.{headed-length, head-told, entry-again}

@@ -1,11 +1,9 @@
-use Prim.Native.Nat.{_+_, _-_}
+use Prim.Native.Nat.{_-_}
 use native.Mathlib.Omega.{arith}
 use mathlib.Core.Path.{_≡_, refl, sym, ap, _∙_}
 use mathlib.Core.Bool.{not}
 use lib.ListN.{drop}
-use borrow.Author.Needs.{needs}
-use Rattle.holder_rules.specs.Register.{entries, free, used}
-use Rattle.holder_rules.specs.declared.Entry.{Entry}
+use Rattle.holder_rules.specs.Register.{entries, free}
 use Rattle.holder_entries.specs.Places.{firstFrom, unusedIn}
 use Rattle.holder_entries.proofs.Turns.{is-used, not-used, first-here, first-later, first-none}
 use Rattle.holder_arrays.specs.Arrays.{registerOf}

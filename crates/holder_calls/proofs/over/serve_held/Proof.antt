@@ -1,15 +1,9 @@
-use Prim.Native.Nat.{ℕ, _-_}
-use mathlib.Core.List.{List, []}
-use mathlib.Core.Path.{_≡_, refl, sym, ap, _∙_}
+use Prim.Native.Nat.{_-_}
 use native.Mathlib.Omega.{arith}
-use lib.IntN.{ℤ}
 use lib.ListN.{length, length-drop}
-use mir.Syntax.{w64}
 use Rattle.pool_state.specs.Shown.{pool}
 use Rattle.image_parts.specs.Layout.{current}
 use Rattle.image_parts.proofs.Lawful.{lawful-current}
-use Rattle.calls.specs.Calls.{callOf}
-use Rattle.c_over.specs.CCalls.{returned}
 use Rattle.holder_rules.specs.Holders.{below}
 use Rattle.holder_serve.specs.Made.{requested}
 use Rattle.holder_image.specs.Layout.{memoryAt}

@@ -1,17 +1,13 @@
 use mathlib.Core.List.{List, []}
 use Prim.Native.Nat.{ℕ}
-use mathlib.Core.Path.{_≡_, refl, sym, ap, _∙_, subst}
-use lib.IntN.{ℤ, negsuc}
-use mir.Syntax.{w64}
-use mir.Val.{toZ, ofZ}
-use mir.Facts.{toZ-ofZ}
+use mathlib.Core.Path.{sym, _∙_}
+use lib.IntN.{ℤ}
 use Rattle.image_parts.specs.Layout.{current}
 use Rattle.rules.specs.Rules.{Free}
 use Rattle.c_over.specs.Images.{images}
-use Rattle.calls.specs.Calls.{callOf}
-use Rattle.holder_image.specs.Bytes.{bytesOf, memoryIn, registerIn, holdingIn}
+use Rattle.holder_image.specs.Bytes.{holdingIn}
 use Rattle.holder_arrays.specs.Arrays.{registerOf}
-use Rattle.holder_calls.specs.Calls.{Asks, Settles}
+use Rattle.holder_calls.specs.Calls.{Settles}
 use Rattle.holder_rules.specs.Holders.{offer}
 use Rattle.holder_calls.proofs.Machine.{held, is-four, not-four}
 use Rattle.holder_calls.proofs.Settled.{offer-four, offer-five, offer-answered}
