@@ -1,5 +1,6 @@
--- Taking has one page call on a book, Reading the same over an image, Pages one after another, and Handed the promise.
+-- Taking has one page call on a book, Reading the same over an image, Pages one after another, Wanting the number where one is not to be had, and Handed the promise.
 pub mod Taking
 pub mod Reading
 pub mod Pages
+pub mod Wanting
 pub mod Handed

@@ -64,11 +64,11 @@ each-had (suc n) l t k h =
     ]
 
 -- where one was not to be had, the door refuses once more
-below-zero : (i : ℤ) → ltZ i (pos 0) ≡ true → numberFrom i ≢ 0
+pub below-zero : (i : ℤ) → ltZ i (pos 0) ≡ true → numberFrom i ≢ 0
 below-zero (pos a) e g = let h = ltb-true a 0 e in let z : ⊥ = omega arith in z
 below-zero (negsuc k) e g = let z : ⊥ = omega arith in z
 
-refused-same : (l : List ℕ) → ltZ (pageFrom l .number) (pos 0) ≡ true → pageFrom l .bytes ≡ l
+pub refused-same : (l : List ℕ) → ltZ (pageFrom l .number) (pos 0) ≡ true → pageFrom l .bytes ≡ l
 refused-same l e = refusal-unchanged current l (byteCall (AllocatePages 1 12)) (below-zero (pageFrom l .number) e)
 
 abbrev Refuses : Supply → Type 0

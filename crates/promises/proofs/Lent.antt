@@ -12,7 +12,7 @@ use Rattle.calls.specs.Calls.{voucherOf}
 use Rattle.core_serve.specs.Made.{made}
 use Rattle.memory_allocator.specs.States.{states}
 use Rattle.memory_allocator.proofs.Demand.{demand}
-use Rattle.promises.specs.Lent.{doorOf, lent}
+use Rattle.promises.specs.Lent.{doorOf, lent, LentPromises}
 
 module _ (n : ℕ) where
   same : (m : MemoryAllocator) (c : Call) → doorOf n m c ≡ made n m c
@@ -32,5 +32,5 @@ module _ (n : ℕ) where
     Sound = SoundState n;
   })
 
-  pub lent-demand : n ≤ none → Demand (lent n)
-  lent-demand small = subst Demand same-engine (demand n small)
+  pub lent-promises : n ≤ none → LentPromises n
+  lent-promises small = record { same-call = same; books-close = subst Demand same-engine (demand n small) }

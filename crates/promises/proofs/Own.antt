@@ -42,9 +42,7 @@ use Rattle.door_fields.proofs.Sized.{sized-passes}
 use Rattle.door_own.specs.Own.{judgedHere}
 use Rattle.door_own.proofs.Own.{same-judged}
 use Rattle.door_lists.specs.Lists.{listedHere, answeredHere}
-use Rattle.promises.specs.Clients.{ClientDemand}
-use Rattle.promises.specs.Lowest.{ClientLowest}
-use Rattle.promises.specs.Own.{own, OwnAct, OwnNew, OwnCall, OwnList, ownRenews, voucherIf, ownGives, ownNext, ownClient}
+use Rattle.promises.specs.Own.{own, OwnAct, OwnNew, OwnCall, OwnList, ownRenews, voucherIf, ownGives, ownNext, ownClient, OwnPromises}
 use Rattle.promises.proofs.Clients.{Plays, client-demand, client-lowest}
 
 module _ (n : ℕ) (small : n ≤ none) where
@@ -159,9 +157,14 @@ module _ (n : ℕ) (small : n ≤ none) where
         places ∙ list-kept n small (at cs) (sound cs) b ∙ vouchers-are (at cs) (sound cs) (callsIn b),
       )
 
-  -- From fields that hold the empty allocator, after any list of acts.
-  pub own-acts-demand : ClientDemand (own n) (ownClient n)
-  own-acts-demand = client-demand (own n) (ownClient n) (record { calls = calls; anew = anew; onward = onward }) own-demand
+  plays : Plays (own n) (ownClient n)
+  plays = record { calls = calls; anew = anew; onward = onward }
 
-  pub own-acts-lowest : ClientLowest (own n) (ownClient n) lowestIn
-  own-acts-lowest = client-lowest (own n) (ownClient n) (record { calls = calls; anew = anew; onward = onward }) lowestIn own-lowest
+  -- acts: from fields that hold the empty allocator, after any list of them
+  pub own-promises : OwnPromises n
+  own-promises = record {
+    same-call = λ s z rule. same-judged n small s rule z;
+    books-close = own-demand;
+    acts-close = client-demand (own n) (ownClient n) plays own-demand;
+    lowest-counted = client-lowest (own n) (ownClient n) plays lowestIn own-lowest;
+  }

@@ -46,6 +46,7 @@ fn one_free_page(world: &mut World, empty: &[u8]) {
 #[rustfmt::skip]
 const ROWS: &[Row] = &[
     Row { name: "size 0", change: |_, a| a.size = 0, answer: -4, is_so: |s| s.is_ok && s.mapped() == 1 << 32 },
+    Row { name: "an input in a page", change: |_, a| a.input = 2048, answer: -4, is_so: |s| s.is_ok && s.first().map_or(false, |f| f.input == 0 && f.output == 0x8000_0000) },
     Row { name: "an input past the last", change: |w, a| { w.vtcr = 0x59; a.input = 1 << 39 }, answer: -4, is_so: |s| s.is_ok && s.first().map_or(false, |f| f.input == 0) },
     Row { name: "a range past the last input", change: |_, a| { a.input = (1 << 32) - PAGE; a.size = 2 * PAGE }, answer: -4, is_so: |s| s.is_ok && s.mapped() == PAGE },
     Row { name: "an output past 2^48", change: |_, a| a.output = 1 << 48, answer: -4, is_so: |s| s.is_ok && s.first().map_or(false, |f| f.output == 0) },

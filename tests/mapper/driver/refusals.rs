@@ -22,6 +22,28 @@ fn table(page: u64) -> u64 {
     BASE + page * PAGE + 0x403
 }
 
+// where 12 pages are below 2^48
+const HIGH: u64 = (1 << 48) - 12 * PAGE;
+
+/// An allocator without a record to spare: these free ranges, as first byte and size, and single bytes between others for the rest.
+fn crowded(ranges: &[(u64, u64)]) -> Vec<u8> {
+    let mut image = new_image();
+    let others = (0..256 - ranges.len() as u64).map(|i| (BASE + 15 * PAGE + 2 * i, 1));
+    for (start, size) in ranges.iter().copied().chain(others) {
+        assert_eq!(free(&mut image, start, size), 0);
+    }
+    assert_eq!(free(&mut image, BASE + 14 * PAGE, 1), -1);
+    image
+}
+
+/// The arena and its top table from this address on, with so many pages free from the eighth on.
+fn moved(w: &mut World, base: u64, pages: u64) {
+    w.base = base;
+    w.vttbr = base;
+    w.image = new_image();
+    assert_eq!(free(&mut w.image, base + 8 * PAGE, pages * PAGE), 0);
+}
+
 const ONE: Ask = Ask { output: 0x8000_0000, input: 0, size: PAGE, readable: true, writable: true };
 
 type Change = fn(&mut World, &mut Ask);
@@ -65,6 +87,9 @@ const CASES: &[(&str, i64, Change)] = &[
     ("one word more", 0, |w, _| w.arena.push(7)),
     ("top elsewhere", -2, |w, _| w.vttbr = BASE + 16 * PAGE),
     ("top before", -2, |w, _| w.vttbr = BASE - PAGE),
+    ("free pages on both sides of 2^48", -2, |w, _| moved(w, HIGH, 8)),
+    ("an arena on both sides of 2^48, free pages below", 0, |w, _| moved(w, HIGH, 4)),
+    ("one free byte from 2^48 on", -2, |w, _| { moved(w, HIGH, 4); free(&mut w.image, (1 << 48) + PAGE, 1); }),
     ("arena past 2^48", -2, |w, _| { w.base = 1 << 48; w.vttbr = 0 }),
     ("a table elsewhere", -2, |w, _| w.arena[3] = table(16)),
     ("a table at bits 49:48 and 47:12", 0, |w, _| w.arena[3] = table(1) | 3 << 48),
@@ -89,6 +114,10 @@ const CASES: &[(&str, i64, Change)] = &[
     ("an empty allocator", -3, |w, _| w.image = new_image()),
     ("one page, two wanted", -3, |w, _| { w.image = new_image(); free(&mut w.image, BASE + 8 * PAGE, PAGE); }),
     ("two pages, two wanted", 0, |w, _| { w.image = new_image(); free(&mut w.image, BASE + 8 * PAGE, 2 * PAGE); }),
+    ("a page that would be split off, no record unused", -1, |w, _| w.image = crowded(&[(BASE + 9 * PAGE - 1, PAGE + 2)])),
+    ("no record for the second of two pages", -1, |w, _| w.image = crowded(&[(BASE + 9 * PAGE, PAGE + 1), (BASE + 12 * PAGE - 1, PAGE + 2)])),
+    ("two pages that no record is wanted for", 0, |w, _| w.image = crowded(&[(BASE + 9 * PAGE, PAGE + 1), (BASE + 12 * PAGE - 1, PAGE + 1)])),
+    ("no page fits, no record unused", -3, |w, _| w.image = crowded(&[(BASE + 9 * PAGE - 1, PAGE)])),
     ("2^48 bytes in blocks", -3, |w, a| { w.vtcr = 0x90; a.output = 0; a.size = 1 << 48 }),
     ("all of them but a page, in pages", -3, |w, a| { w.vtcr = 0x90; a.output = PAGE; a.size = (1 << 48) - PAGE }),
     ("2^48 bytes, not aligned", -4, |w, a| { w.vtcr = 0x90; a.output = PAGE; a.size = 1 << 48 }),
