@@ -2,3 +2,4 @@
 pub mod Parts
 pub mod Rounds
 pub mod Fitting
+pub mod Pinned
