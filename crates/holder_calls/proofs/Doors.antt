@@ -1,6 +1,6 @@
 -- The C calls from an empty image on are the register's calls above the allocator's C calls. Assumes nothing.
 use Prim.Native.Nat.{ℕ, zero, suc, _^_, _<_}
-use mathlib.Core.Bool.{Bool, true, false, not, cond}
+use mathlib.Core.Bool.{Bool, true, false}
 use mathlib.Core.List.{List, [], _∷_}
 use mathlib.Core.Path.{_≡_, refl, ap, _∙_}
 use native.Mathlib.Omega.{arith}
@@ -19,13 +19,13 @@ use Rattle.image.proofs.Rounds.{image-accepted}
 use Rattle.c_over.specs.CCalls.{Returned}
 use Rattle.c_over.specs.Images.{images}
 use Rattle.c_over.proofs.Demand.{obeys}
-use Rattle.holder_rules.specs.Register.{entries, blank, blanks, replace}
+use Rattle.holder_rules.specs.Register.{entries, blank, blanks}
 use Rattle.holder_rules.specs.Holders.{Holding, both, nothing, Answer, offer, giveBack, take, asked, Call, Offer, By, step, voucher, run, trail}
 use Rattle.holder_rules.specs.Sound.{registerSound}
-use Rattle.holder_rules.specs.declared.Entry.{Entry}
 use Rattle.holder_laws.proofs.Demand as laws
 use Rattle.holder_laws.proofs.Outcomes.{Kept, Comes, refusal, offers, gives-back, takes, comes}
 use Rattle.holder_laws.proofs.Keeps.{step-keeps}
+use Rattle.holder_laws.proofs.Entries.{length-replace}
 use Rattle.holder_check.proofs.Exact.{sound←}
 use Rattle.holder_image.specs.Layout.{memoryAt, wholeSize, restOf}
 use Rattle.holder_image.specs.Bytes.{bytesOf, memoryIn, registerIn, holdingIn, headed}
@@ -43,15 +43,6 @@ same-step f l m (By h (Allocate z o)) k = refl
 same-step f l m (By h (Reserve s z o)) k = refl
 
 -- ---- the register keeps its entries
-
-length-replace : (p : Entry → Bool) (e : Entry) (r : List Entry) → length (replace p e r) ≡ length r
-unfolding replace
-length-replace p e [] = refl
-length-replace p e (q ∷ r) = go (length-replace p e r) (p q)
-  where
-    go : length (replace p e r) ≡ length r → (b : Bool) → length (cond b (e ∷ r) (q ∷ replace p e r)) ≡ suc (length r)
-    go ih true = refl
-    go ih false = ap suc ih
 
 length-blanks : (m : ℕ) → length (blanks m) ≡ m
 unfolding blanks

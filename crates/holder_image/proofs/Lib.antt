@@ -3,3 +3,4 @@ pub mod Parts
 pub mod Rounds
 pub mod Fitting
 pub mod Put
+pub mod Pinned

@@ -17,16 +17,18 @@ use Rattle.rules_laws.proofs.Shelf.{same-shelf}
 use Rattle.rules_engine.specs.Engine.{Engine, freeIn}
 use Rattle.rules_engine.specs.Demand.{SameFree, SameShelves}
 use Rattle.rules_engine.proofs.Obeys.{Obeys}
+use Rattle.rules_engine.proofs.Demand.{Stands}
 use Rattle.holder_rules.specs.Register.{blank, blanks, held, byAddress, those, ofHolder, listOf}
 use Rattle.holder_rules.specs.Holders.{Holding, nothing, Answer, Call, By, below, step, Voucher, voucher, run, trail, covers, lastCovering, said, wasFree, wasTakeOf, isOf, isAccepted, heldAt, offered, offeredBy, moved, own}
 use Rattle.holder_rules.specs.Sound.{Clear, Has, SoundRegister}
 use Rattle.holder_rules.specs.declared.Entry.{Entry}
 use Rattle.holder_laws.specs.Demand as demands
-use Rattle.holder_laws.specs.Demand.{left, kept, Demand}
+use Rattle.holder_laws.specs.Demand.{left, kept, Demand, Grows}
 use Rattle.holder_laws.proofs.Outcomes.{Kept, Comes, refusal, offers, gives-back, takes, comes}
 use Rattle.holder_laws.proofs.Keeps.{step-keeps, free-not-held}
 use Rattle.holder_laws.proofs.Bytes.{held→, book-is, comes-free, comes-held, comes-covers, comes-conserved}
 use Rattle.holder_laws.proofs.Lists.{comes-list}
+use Rattle.holder_laws.proofs.Entries.{comes-entries}
 use Rattle.holder_laws.proofs.HandBack.{comes-back}
 use Rattle.holder_laws.proofs.Offers.{comes-once, brought-stays, brought-counted}
 use Rattle.holder_laws.proofs.Told.{told-by-own, allocate-told}
@@ -60,6 +62,15 @@ module _ {n : ℕ} {e : Engine} (f : Obeys n e) where
       sound = record { good = λ x h. inl (all-blank m x h); apart = rw (none-held m) tt };
       clear = λ q i p j. absurd j;
     };
+  }
+
+  -- a state of a sound book, and a register that is sound beside it
+  pub kept-of : (k : Holding (e .State)) → Stands f (k .memory) → SoundRegister (e .book (k .memory) .chain) (k .register) → Kept f k
+  kept-of k s r = record {
+    book = s .held;
+    good = s .good;
+    of = s .of;
+    register = subst (λ (b : Book). SoundRegister (b .chain) (k .register)) (f .shows (s .held) (k .memory) (s .good) (s .of)) r;
   }
 
   -- ---- lists of calls
@@ -173,7 +184,17 @@ module _ {n : ℕ} {e : Engine} (f : Obeys n e) where
           let w = comes-back f (left e m cs) κ h c (step e (By h c) (left e m cs)) (comes f (left e m cs) κ (By h c)) t q in
           (w .0, w .1 ∙ ap listing (sym (book-is f (left e m cs) κ)), w .2);
       others = λ cs c h. others (left e m cs) (kept-left cs) h c;
+      others-entries = λ cs c h. comes-entries f (left e m cs) (kept-left cs) h c (step e c (left e m cs)) (comes f (left e m cs) (kept-left cs) c);
       own-list = λ cs h. own-calls h (nothing e m) cs (nothing-kept m) ∙ ap (λ (l : List Range). own h l (kept e m cs)) (first-list h);
       told-by-own = λ cs h s z. told-by-own f (left e m cs) (kept-left cs) h s z;
       allocate-told = λ cs ds. allocate-told f (left e m cs) (left e m ds) (kept-left cs) (kept-left ds);
     }
+
+    -- An allocator whose sound states are those of sound books grows so from any of them on.
+    pub grows-on : ((s : e .State) → e .Sound s → Stands f s) → Grows e m
+    grows-on stands k h cs =
+        let κ = kept-of k (stands (k .memory) (h .0)) (h .1) in
+        let g = grows k cs κ in
+        let before = counts-now k κ in
+        let now = counts-now (run e k cs) (run-keeps k cs κ) in
+        omega arith

@@ -8,4 +8,7 @@ pub mod Lists
 pub mod HandBack
 pub mod Offers
 pub mod Told
+pub mod Entries
+pub mod Ends
+pub mod Alike
 pub mod Demand

@@ -1,18 +1,27 @@
 -- Demands 2 and 3 as request T-07 reads them, sentence by sentence, of the register over any allocator: from nothing free and nothing held, with m entries, after any
 -- list of calls. Assumes nothing.
 use Prim.Native.Nat.{ℕ, _+_, _-_}
-use mathlib.Core.Bool.{Bool, false, not, _||_}
+use mathlib.Core.Bool.{Bool, false, cond, not, _&&_, _||_}
 use mathlib.Core.List.{List, []}
 use mathlib.Core.Logic.{_≢_}
 use mathlib.Core.Path.{_≡_}
 use lib.Dec.{T, eqb}
+use lib.ListN.{getD}
 use Rattle.rules.specs.Rules as rules
 use Rattle.rules.specs.Rules.{top, sum, listing, total, any, Free, Allocate, frees, from, past, back, count}
 use Rattle.rules_engine.specs.Engine.{Engine, freeIn}
 use Rattle.rules_engine.specs.Demand.{SameFree, SameShelves}
-use Rattle.holder_rules.specs.Register.{held, exactly, listOf}
+use Rattle.holder_rules.specs.Register.{blank, used, held, exactly, listOf}
 use Rattle.holder_rules.specs.Holders.{Holding, nothing, Call, Offer, By, below, step, Voucher, voucher, run, trail, covers, lastCovering, said, wasFree, wasTakeOf, isOf, heldAt, offered, brings, brought, own}
 use Rattle.holder_rules.specs.Sound.{SoundRegister}
+use Rattle.holder_rules.specs.declared.Entry.{Entry}
+
+-- the entry, if it is h's, else the unused one; entry i so
+abbrev pub ofHis : ℕ → Entry → Entry
+ofHis h q = cond (eqb (q .holder .0) h && used q) q blank
+
+abbrev pub hisEntry : ℕ → List Entry → ℕ → Entry
+hisEntry h r i = ofHis h (getD r i blank)
 
 module _ (e : Engine) (m : ℕ) where
   -- what a list of calls leaves, and its vouchers
@@ -69,9 +78,16 @@ module _ (e : Engine) (m : ℕ) where
         × (step e (handingBack h h c cs) (after h c cs) .holding .register ≡ left cs .register)
     -- "A holder's list of ranges is changed by no call of another holder", nor of the board,
     pub others : (cs : List Call) (c : Call) (h : ℕ) → T (not (isOf h c)) → listOf h (step e c (left cs) .holding .register) ≡ listOf h (left cs .register)
-    -- and is what its own accepted calls make of the empty one.
+    -- nor is any of its entries: by number, each of them is the same before and after, whatever the call is answered;
+    pub others-entries : (cs : List Call) (c : Call) (h : ℕ) → T (not (isOf h c)) → (i : ℕ) → hisEntry h (step e c (left cs) .holding .register) i ≡ hisEntry h (left cs .register) i
+    -- and the list is what its own accepted calls make of the empty one.
     pub own-list : (cs : List Call) (h : ℕ) → listOf h (left cs .register) ≡ own h [] (kept cs)
     -- Whether a free is refused with 4 or 5 is told by its holder's own list alone: exactly if the range is not on it. (A number that is no holder's has nothing on its list.)
     pub told-by-own : (cs : List Call) (h s z : ℕ) → (eqb (answered (By h (Free s z)) cs) 4 || eqb (answered (By h (Free s z)) cs) 5) ≡ not (any (exactly s z) (listOf h (left cs .register)))
     -- Whether an allocate is refused with 4 is told by holder, size and order alone.
     pub allocate-told : (cs ds : List Call) (h z o : ℕ) → eqb (answered (By h (Allocate z o)) cs) 4 ≡ eqb (answered (By h (Allocate z o)) ds) 4
+
+  -- From any sound state on, whatever led to it, the total plus the held bytes grows by exactly the accepted offers.
+  abbrev pub Grows : Type 0
+  Grows = (k : Holding (e .State)) → SoundHolding k → (cs : List Call)
+      → e .total (run e k cs .memory) + sum (held (run e k cs .register)) ≡ (e .total (k .memory) + sum (held (k .register))) + offered (trail e k cs)

@@ -9,6 +9,7 @@ pub mod Lines
 pub mod HolderLines
 pub mod Program
 pub mod ImagePromises
+pub mod Holders
 pub mod HolderImages
 pub mod ScriptPromises
 pub mod PagePromises
