@@ -13,6 +13,7 @@ pub mod ImagePromises
 pub mod Holders
 pub mod HolderServed
 pub mod HolderCalls
+pub mod HolderLowest
 pub mod HolderImages
 pub mod ScriptPromises
 pub mod PagePromises

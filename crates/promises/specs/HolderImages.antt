@@ -2,26 +2,29 @@
 -- sentence, of every layout whose fields can hold its own numbers and that has a low figure. Assumes nothing.
 use Prim.Native.Nat.{ℕ}
 use mathlib.Core.Bool.{true}
-use mathlib.Core.List.{List}
+use mathlib.Core.List.{List, map}
 use mathlib.Core.Logic.{_↔_}
 use mathlib.Core.Path.{_≡_}
 use lib.IntN.{pos}
 use lib.ListN.{length}
-use Rattle.rules_lowest.specs.Lowest.{never, noted}
+use Rattle.rules_lowest.specs.Lowest.{never, noted, sums, least}
 use Rattle.calls.specs.Calls.{signedOf}
 use Rattle.calls.specs.declared.Answer.the-variants.{InvalidEntry}
 use Rattle.bytes_be.specs.Numbers.{Bytes}
 use Rattle.image_parts.specs.Layout.{Layout}
 use Rattle.c_over.specs.CCalls.{Returned, returned}
-use Rattle.holder_rules.specs.Holders.{Call}
+use Rattle.c_over.specs.Images.{lowestStored}
+use Rattle.holder_rules.specs.Holders.{Call, under}
 use Rattle.holder_rules.specs.States.{newOf}
 use Rattle.holder_rules.specs.declared.HolderAllocator.{HolderAllocator}
 use Rattle.holder_serve.specs.Made.{numberOf, addressOf, made}
 use Rattle.holder_serve.specs.declared.HolderOutcome.{HolderOutcome}
 use Rattle.holder_image.specs.Layout.{wholeSize}
+use Rattle.holder_image.specs.Bytes.{memoryIn}
 use Rattle.holder_images.specs.Writing.{SoundWith, Image, imageOf}
 use Rattle.holder_images.specs.Reading.{readingOf}
 use Rattle.holder_calls.specs.Calls.{serves, signed, callOver, newOver}
+use Rattle.holder_calls.specs.Doors.{after, vouchers}
 
 -- the figure beside the state that a call by value leaves: where it is accepted, the less of the one before and the new total
 abbrev pub notedAfter : ℕ → HolderOutcome → ℕ
@@ -42,3 +45,6 @@ pub record HolderImagePromises (f : Layout) : Type 0 where
   pub sound-left : (c : Call) (s : HolderAllocator) (low : ℕ) → SoundWith (f .records) s low → SoundWith (f .records) (made (f .records) s c .state) (notedAfter low (made (f .records) s c))
   -- as the first is, which is that of `new`
   pub new-by-value : (l : List ℕ) → length l ≡ wholeSize f → newOver f l ≡ returned (pos 0) (imageOf f (newOf (f .records)) never)
+  -- request T-08: the lowest figure stored in the allocator's part is the least total after an accepted call since `new`, counted from the calls and their answers alone, 2^64-1 where none was accepted
+  pub lowest-counted : (l : List ℕ) → length l ≡ wholeSize f → (cs : List Call)
+      → lowestStored f (memoryIn (after f (newOver f l .bytes) cs)) ≡ least never (sums 0 (map under (vouchers f (newOver f l .bytes) cs)))
