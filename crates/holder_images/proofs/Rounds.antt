@@ -135,7 +135,8 @@ module _ (f : Layout) (full : Figured f) (small : restOf f < 256 ^ lengthSize) w
     abbrev r : List Entry
     r = s .register .entries
 
-    passes : isSound (f .records) s ≡ true
+    -- it passes the check
+    pub passes : isSound (f .records) s ≡ true
     unfolding isSound
     passes = rw (ranges-exact.sound-passes (f .records) few (s .memory) (h .memory .ranges), T-true (registerSound (bookOf (f .records) (s .memory) .chain) r) (sound← (bookOf (f .records) (s .memory) .chain) r (h .register)))
 

@@ -6,10 +6,14 @@ pub mod Lent
 pub mod Own
 pub mod Images
 pub mod Lines
+pub mod HolderVouchers
 pub mod HolderLines
 pub mod Program
 pub mod ImagePromises
 pub mod Holders
+pub mod HolderServed
+pub mod HolderCalls
+pub mod HolderLowest
 pub mod HolderImages
 pub mod ScriptPromises
 pub mod PagePromises
