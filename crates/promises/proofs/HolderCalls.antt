@@ -1,8 +1,8 @@
 -- The C calls of the register are its calls by value, on the state that the image holds. Between the two stands the register above an account: its image is what the C calls have, its ranges
 -- are what the calls by value have. Assumes nothing.
-use Prim.Native.Nat.{ℕ, _^_, _≤_, _<_}
+use Prim.Native.Nat.{ℕ, zero, suc, _^_, _≤_, _<_}
 use mathlib.Core.Bool.{true, cond}
-use mathlib.Core.List.{List, []}
+use mathlib.Core.List.{List, [], _∷_}
 use mathlib.Core.Path.{_≡_, refl, sym, ap, _∙_, subst}
 use native.Mathlib.Omega.{arith}
 use lib.Dec.{eqb}
@@ -28,9 +28,9 @@ use Rattle.c_over.specs.Images.{images}
 use Rattle.c_over.proofs.Images.{call-bytes, call-voucher}
 use Rattle.c_over.proofs.Demand.{new-written}
 use Rattle.holder_rules.specs.Register.{entries, blanks}
-use Rattle.holder_rules.specs.Holders.{Holding, both, Answer, Call, below, step, Voucher, voucher}
+use Rattle.holder_rules.specs.Holders.{Holding, both, Answer, Call, below, step, Voucher, voucher, run, trail}
 use Rattle.holder_rules.specs.Sound.{SoundRegister}
-use Rattle.holder_rules.specs.States.{holdingOf, newOf}
+use Rattle.holder_rules.specs.States.{holdingOf, withRegister, newOf}
 use Rattle.holder_rules.specs.declared.Entry.{Entry}
 use Rattle.holder_rules.specs.declared.HolderAllocator.{HolderAllocator}
 use Rattle.holder_laws.proofs.Demand as laws
@@ -51,16 +51,17 @@ use Rattle.holder_images.specs.Writing.{SoundWith, imageOf}
 use Rattle.holder_images.specs.Reading as reads
 use Rattle.holder_images.proofs.Rounds.{passes, read-written}
 use Rattle.holder_calls.specs.Calls.{serves, signed, finished, over, callOver, newOver}
+use Rattle.holder_calls.specs.Doors.{voucherFrom, after, vouchers}
 use Rattle.promises.specs.HolderImages.{notedAfter, asReturned}
 use Rattle.promises.proofs.Holders.{rangesOf, ranges-answers, ranges-leaves, kept-account}
 use Rattle.promises.proofs.HolderVouchers.{told}
 use Rattle.promises.proofs.HolderServed.{read-served}
 
 module _ (f : Layout) (full : Figured f) (small : restOf f < 256 ^ lengthSize) where
-  abbrev n : ℕ
+  abbrev pub n : ℕ
   n = f .records
 
-  few : n ≤ none
+  abbrev pub few : n ≤ none
   few = small-pool f (full .lawful)
 
   module _ (c : Call) (s : HolderAllocator) (low : ℕ) (h : SoundWith n s low) where
@@ -147,6 +148,20 @@ module _ (f : Layout) (full : Figured f) (small : restOf f < 256 ^ lengthSize) w
         let b = leaves w (ends (accounts n) k c) ∙ bytes in
         called-over ∙ sym (λ i. returned (signed (v i .number) (v i .address)) (sym b i))
 
+    -- as the register above an account has it
+    pub over-bytes : callOver f c (imageOf f s low) .bytes ≡ bytesOf f (turned (allocator.imageOf f) (w .holding))
+    unfolding finished
+    over-bytes = ap (λ (x : Returned). x .bytes) called-over ∙ leaves w (ends (accounts n) k c)
+
+    signs : (w : Answer Account) → Ends (accounts n) k c w → voucherFrom c (signed (w .number) (w .address)) ≡ voucher c w
+    signs _ (stays zero d) = absurd (d refl)
+    signs _ (stays (suc j) d) = rw (ne-eqb (suc j) 0 d)
+    signs _ (goes q z) = refl
+
+    pub over-voucher : voucherFrom c (callOver f c (imageOf f s low) .number) ≡ voucher c w
+    unfolding finished
+    over-voucher = ap (λ (x : Returned). voucherFrom c (x .number)) called-over ∙ signs w (ends (accounts n) k c)
+
     pub sound-left : SoundWith n (made n s c .state) (notedAfter low (made n s c))
     sound-left =
         let next = step-keeps (obeys n few) c k kept in
@@ -158,6 +173,40 @@ module _ (f : Layout) (full : Figured f) (small : restOf f < 256 ^ lengthSize) w
           register = subst (λ (b : Book). SoundRegister (b .chain) (w .holding .register)) (sym shows) (next .register);
           sized = comes-sized (obeys n few) k kept c w (comes (obeys n few) k kept c) ∙ h .sized;
         })
+
+  -- ---- lists of calls
+
+  -- the state in such a holding, beside the account's figure
+  pub sound-of : (k : Holding Account) → Kept (obeys n few) k → length (k .register) ≡ entries → SoundWith n (withRegister (turned rangesOf k)) (k .memory .lowest)
+  sound-of k κ e =
+      let shows = obeys n few .shows (κ .book) (k .memory) (κ .good) (κ .of) in
+      record { memory = kept-account n few k κ; register = subst (λ (b : Book). SoundRegister (b .chain) (k .register)) (sym shows) (κ .register); sized = e }
+
+  next-sized : (c : Call) (k : Holding Account) → Kept (obeys n few) k → length (k .register) ≡ entries → length (step (accounts n) c k .holding .register) ≡ entries
+  next-sized c k κ e = comes-sized (obeys n few) k κ c (step (accounts n) c k) (comes (obeys n few) k κ c) ∙ e
+
+  pub run-sized : (k : Holding Account) → Kept (obeys n few) k → length (k .register) ≡ entries → (cs : List Call) → length (run (accounts n) k cs .register) ≡ entries
+  unfolding run
+  run-sized k κ e [] = e
+  run-sized k κ e (c ∷ cs) = run-sized (step (accounts n) c k .holding) (step-keeps (obeys n few) c k κ) (next-sized c k κ e) cs
+
+  pub after-over : (k : Holding Account) → Kept (obeys n few) k → length (k .register) ≡ entries → (cs : List Call)
+      → after f (bytesOf f (turned (allocator.imageOf f) k)) cs ≡ bytesOf f (turned (allocator.imageOf f) (run (accounts n) k cs))
+  unfolding after run imageOf
+  after-over k κ e [] = refl
+  after-over k κ e (c ∷ cs) =
+      ap (λ (l : List ℕ). after f l cs) (over-bytes c (withRegister (turned rangesOf k)) (k .memory .lowest) (sound-of k κ e))
+      ∙ after-over (step (accounts n) c k .holding) (step-keeps (obeys n few) c k κ) (next-sized c k κ e) cs
+
+  pub vouchers-over : (k : Holding Account) → Kept (obeys n few) k → length (k .register) ≡ entries → (cs : List Call) → vouchers f (bytesOf f (turned (allocator.imageOf f) k)) cs ≡ trail (accounts n) k cs
+  unfolding vouchers trail imageOf
+  vouchers-over k κ e [] = refl
+  vouchers-over k κ e (c ∷ cs) =
+      let s = withRegister (turned rangesOf k) in
+      let h = sound-of k κ e in
+      let first = over-voucher c s (k .memory .lowest) h in
+      let others = ap (λ (l : List ℕ). vouchers f l cs) (over-bytes c s (k .memory .lowest) h) ∙ vouchers-over (step (accounts n) c k .holding) (step-keeps (obeys n few) c k κ) (next-sized c k κ e) cs in
+      (λ i. first i ∷ others i)
 
   -- the call that begins an image
   pub new-by-value : (l : List ℕ) → length l ≡ wholeSize f → newOver f l ≡ returned (pos 0) (imageOf f (newOf n) never)

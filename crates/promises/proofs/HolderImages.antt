@@ -8,7 +8,7 @@ use Rattle.holder_images.proofs.Rounds.{refused-exactly}
 use Rattle.promises.specs.HolderImages.{HolderImagePromises}
 use Rattle.promises.proofs.HolderServed.{read-served, refused-over}
 use Rattle.promises.proofs.HolderCalls.{by-value, sound-left, new-by-value}
-use Rattle.promises.proofs.HolderLowest.{lowest-counted}
+use Rattle.promises.proofs.HolderLowest.{lowest-counted, lowest-from}
 
 pub of-layout : (f : Layout) → Figured f → restOf f < 256 ^ lengthSize → HolderImagePromises f
 of-layout f full small = record {
@@ -18,6 +18,7 @@ of-layout f full small = record {
   sound-left = sound-left f full small;
   new-by-value = new-by-value f full small;
   lowest-counted = lowest-counted f full small;
+  lowest-from = lowest-from f full small;
 }
 
 pub holder-image-promises : HolderImagePromises current

@@ -48,3 +48,6 @@ pub record HolderImagePromises (f : Layout) : Type 0 where
   -- request T-08: the lowest figure stored in the allocator's part is the least total after an accepted call since `new`, counted from the calls and their answers alone, 2^64-1 where none was accepted
   pub lowest-counted : (l : List ℕ) → length l ≡ wholeSize f → (cs : List Call)
       → lowestStored f (memoryIn (after f (newOver f l .bytes) cs)) ≡ least never (sums 0 (map under (vouchers f (newOver f l .bytes) cs)))
+  -- and so the figure that is read goes on from the image of any sound state: the least of its own figure and of the sums, counted from its own total
+  pub lowest-from : (s : HolderAllocator) (low : ℕ) → SoundWith (f .records) s low → (cs : List Call)
+      → readingOf f (after f (imageOf f s low) cs) .lowest ≡ least low (sums (s .memory .«free_size») (map under (vouchers f (imageOf f s low) cs)))
