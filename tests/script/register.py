@@ -146,6 +146,7 @@ def readings():
     )
     yield said("a list by address, not by entry", "o 0 2|r 1 1 1 0|r 2 0 1 0|h", "ok|ok|ok|held 2 2|2 0 0|1 1 1")
     yield said("the same ranges, other registers", "o 0 2|a 1 1 0|l|h", "ok|ok 0|list 1 1|1 1|held 1 1|1 0 0")
+    yield said("the same ranges, no register", "o 1 1|l|h", "ok|list 1 1|1 1|held 0 0")
     yield said("79 digits and spaces", f"r {TOP} {TOP} {TOP} 184467440737095|r {TOP} {TOP} {TOP} 1844674407370955", "no 4|bad")
     yield said("no holder", "h 0|h 17|h 257|h 16", "no 4|no 4|no 4|held 0 0")
     yield said("the forms of document 01", "f 0 1|a 1 0|r 0 1 0|l 1|h 1 2|o 0|o 0 1 2|l", "bad|bad|bad|bad|bad|bad|bad|list 0 0")
