@@ -46,11 +46,12 @@ link_all() {
   done
 }
 
-# keeping_clang CLANG FOLDER: a clang that does as CLANG does, and leaves in a folder of its own below FOLDER its words, its module and the object
+# keeping_clang CLANG FOLDER: a clang that does as CLANG does, and where it compiles a module leaves in a folder of its own below FOLDER its words, the module and the object
 keeping_clang() {
   cat <<END
 #!/bin/sh
 '$1' "\$@" || exit
+case " \$* " in *' ir '*) ;; *) exit ;; esac
 into=\$(mktemp -d '$2/XXXXXX') || exit
 printf '%s\n' "\$@" >"\$into/words"
 before=
