@@ -110,7 +110,7 @@ store_module() {
   mkdir -p "$stored"
   cp "$2/words" "$stored/words"
   "$clang" "$(grep '^--target=' "$stored/words")" -x ir "$2/module.bc" -S -emit-llvm -Xclang -disable-llvm-passes \
-    -o "$stored/x86_64.ll"
+    -o "$stored/x86_64.ll" || fail "the module of $1 could not be kept: the words of clang stand above"
   digest tools/module.sh >"$stored/of"
 }
 
