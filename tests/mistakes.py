@@ -1,7 +1,11 @@
-"""The mistakes that crates/*/must-fail/*.edit make on purpose. A file makes one, and is named after it, or several, so that one check of
-the crate tries them all. Then each begins with a line `# NAME, in FUNCTION: what is wrong`, or `# NAME, in FUNCTION at NEED: what is wrong`
-where two are in one function: NEED is the declaration of the function's proof that fails. A mistake in a definition may be seen by a law
-instead: FUNCTION is the file of `proofs/` that has it, and NEED the law.
+"""The mistakes that the files in crates/*/must-fail make on purpose.
+
+Those of `must-fail/*.edit` the kit tries, each file in a check of its own. A file makes one mistake, and is named after it, or several, so that
+one check of the crate tries them all. Then each begins with a line `# NAME, in FUNCTION: what is wrong`, or `# NAME, in FUNCTION at NEED: what
+is wrong` where two are in one function: NEED is the declaration of the function's proof that fails. A mistake in a definition may be seen
+by a law instead: FUNCTION is the file of `proofs/` that has it, and NEED the law.
+
+Those of `must-fail/copies/*.edit` are tried by tests/edits, each in a copy of its FUNCTION (tests/copies.py), so that none wants a NEED.
 """
 import re
 from dataclasses import dataclass
@@ -10,7 +14,7 @@ from pathlib import Path
 HEAD = re.compile(r"# (\w+), in (\w+)(?: at ([^\s:]+))?: (.+)")
 
 
-@dataclass
+@dataclass(frozen=True)
 class Mistake:
     crate: str
     name: str
@@ -21,6 +25,10 @@ class Mistake:
     source: str
     old: str
     new: str
+
+    @property
+    def is_copied(self):
+        return self.file.parent.name == "copies"
 
     @property
     def place(self):
@@ -41,8 +49,8 @@ def _fields(path):
             yield words, source, old, line[4:].removeprefix(" ")
 
 
-def of_file(path):
-    crate, found = path.parts[-3], list(_fields(path))
+def of_file(path, crate):
+    found = list(_fields(path))
     for words, source, old, new in found:
         head = HEAD.fullmatch(words)
         if head:
@@ -52,13 +60,13 @@ def of_file(path):
 
 
 def of_crate(project, crate):
-    for path in sorted((project / "crates" / crate / "must-fail").glob("*.edit")):
-        yield from of_file(path)
+    for path in sorted((project / "crates" / crate / "must-fail").rglob("*.edit")):
+        yield from of_file(path, crate)
 
 
 def of_project(project):
-    for path in sorted((project / "crates").glob("*/must-fail/*.edit")):
-        yield from of_file(path)
+    for folder in sorted((project / "crates").glob("*/must-fail")):
+        yield from of_crate(project, folder.parent.name)
 
 
 def find(project, crate, name):

@@ -4,6 +4,7 @@ import re
 ERROR = re.compile(r"^\S*/(proofs|specs|src)/(\S+?):\d+:\d+: error: (?:`([^`]+)`: )?(.*)$", re.M)
 NOTE = re.compile(r"^note: \S*?/src/(\S+?):(\d+):\d+: it is not proved that", re.M)
 UNCLOSED = re.compile(r"^fn (?:\w+::)+(\w+): .*`search` does not close", re.M)
+SURVIVED = "it was not refused"
 A_FUNCTION = re.compile(r"^\s*(?:pub )?(?:extern \"C\" )?fn (\w+)")
 
 
@@ -45,11 +46,37 @@ def has_failed(mistake, failed):
 def judged(mistake, folder, log):
     """What is wrong with a mistake's refusal, or None."""
     if "logic=not-proved" not in log:
-        return "it was not refused"
+        return SURVIVED
     failed = own_failures(folder, log)
     if mistake.function and not has_failed(mistake, failed):
         places = ", ".join(sorted(f"{name} at {need}" if need else name for name, need in failed))
         return f"{mistake.place} has no failure of its own; those that have: {places or 'none'}"
     if not failed and not list(facts(log)):
+        return "its only errors are of a proof that no longer fits the code"
+    return None
+
+
+def failed_in(module, log):
+    """Whether something of a module with a copy has failed, for a fact."""
+    if any(module in path.split("/") for _, path, _ in facts(log)):
+        return True
+    if any(name.split("/")[-1] == f"{module}.rt" for name, _ in NOTE.findall(log)):
+        return True
+    return bool(re.search(rf"^fn (?:\w+::)*{module}::\w+: .*`search` does not close", log, re.M))
+
+
+def is_proved(module, function, log):
+    return bool(re.search(rf"^fn (?:\w+::)*{module}::{function}: proved$", log, re.M))
+
+
+def is_refused(module, function, log):
+    return bool(re.search(rf"^fn (?:\w+::)*{module}::{function}: (?:not proved|no proof)", log, re.M))
+
+
+def judged_copy(module, function, log):
+    """What is wrong with the refusal of a copy with a mistake, or None."""
+    if not is_refused(module, function, log):
+        return SURVIVED if is_proved(module, function, log) else "the prover says nothing of its copy"
+    if not failed_in(module, log):
         return "its only errors are of a proof that no longer fits the code"
     return None
