@@ -52,21 +52,22 @@ module _ (on : ℕ → Bool) where
   unfolding count
   count-none = refl
 
-  pub count-more : (m : ℕ) → count on (suc m) ≡ cond (on m) (suc (count on m)) (count on m)
+  pub count-used : (m : ℕ) → on m ≡ true → count on (suc m) ≡ suc (count on m)
   unfolding count
-  count-more m = go (on m)
-    where
-      go : (t : Bool) → pick t (suc (count on m)) (count on m) ≡ cond t (suc (count on m)) (count on m)
-      go true = refl
-      go false = refl
+  count-used m u = rw u
 
-  more-at-most : (t : Bool) (c m : ℕ) → c ≤ m → cond t (suc c) c ≤ suc m
+  pub count-unused : (m : ℕ) → on m ≡ false → count on (suc m) ≡ count on m
+  unfolding count
+  count-unused m u = rw u
+
+  more-at-most : (t : Bool) (c m : ℕ) → c ≤ m → pick t (suc c) c ≤ suc m
   more-at-most true c m h = omega arith
   more-at-most false c m h = omega arith
 
   pub count-at-most : (m : ℕ) → count on m ≤ m
-  count-at-most zero = omega (arith, count-none)
-  count-at-most (suc m) = rw (count-more m) (more-at-most (on m) (count on m) m (count-at-most m))
+  unfolding count
+  count-at-most zero = omega arith
+  count-at-most (suc m) = more-at-most (on m) (count on m) m (count-at-most m)
 
 -- ---- one record
 
@@ -75,17 +76,25 @@ module _ (start end previous next lprev lnext : ℕ) where
   unfolding recordOk
   in-use on u = rw u
 
+  -- by the answer of a test
+  pub used-tested : (on answer t : Bool) → on ≡ true → answer ≡ proper start end → answer ≡ t → recordOk on start end previous next lprev lnext ≡ t
+  used-tested on answer t u s e = in-use on u ∙ sym s ∙ e
+
+  pub unused-tested : (on answer t : Bool) → on ≡ false → answer ≡ recordOk false start end previous next lprev lnext → answer ≡ t
+      → recordOk on start end previous next lprev lnext ≡ t
+  unused-tested on answer t u s e = rw u (sym s ∙ e)
+
   -- a number of its own
-  pub stale : (on : Bool) → on ≡ false → bitOr start end ≢ 0 → recordOk on start end previous next lprev lnext ≡ false
+  pub stale : bitOr start end ≢ 0 → recordOk false start end previous next lprev lnext ≡ false
   unfolding recordOk
-  stale on u d =
-      ⊎-elim (λ (e : start ≡ 0). rw (u, eq-eqb start 0 e, ne-eqb end 0 (λ f. d (zero-is-or start end e f))))
-      (λ (e : start ≢ 0). rw (u, ne-eqb start 0 e))
+  stale d =
+      ⊎-elim (λ (e : start ≡ 0). rw (eq-eqb start 0 e, ne-eqb end 0 (λ f. d (zero-is-or start end e f))))
+      (λ (e : start ≢ 0). rw (ne-eqb start 0 e))
       (same? start 0)
 
-  pub by-links : (on : Bool) → on ≡ false → start ≡ 0 → end ≡ 0 → recordOk on start end previous next lprev lnext ≡ unlinked previous next lprev lnext
+  pub by-links : start ≡ 0 → end ≡ 0 → recordOk false start end previous next lprev lnext ≡ unlinked previous next lprev lnext
   unfolding recordOk
-  by-links on u e d = rw (u, eq-eqb start 0 e, eq-eqb end 0 d)
+  by-links e d = rw (eq-eqb start 0 e, eq-eqb end 0 d)
 
   pub used-ok : start ≤ end → end < top → recordOk true start end previous next lprev lnext ≡ true
   unfolding recordOk proper

@@ -5,8 +5,7 @@ use pool_state::POOL;
 use pool_state::RecordIndex;
 use pool_state::TOP;
 ghost use mathlib.Core.Path.{_≡_};
-ghost use mathlib.Core.Bool.{cond};
-ghost use Prim.Native.Nat.{suc, _<_};
+ghost use mathlib.Core.Bool.{false};
 ghost use Rattle.pool_state.specs.Shown.{pool};
 ghost use Rattle.pool_state.specs.Lent.{was};
 ghost use Rattle.check_records.specs.Records.{proper, unlinked, recordOk, records};
@@ -39,9 +38,8 @@ fn is_unlinked(
     previous.0 & next.0 & lprev.0 & lnext.0 == NONE
 }
 
-// A record in use holds a proper range; an unused one is as in a new state.
-fn record_ok(
-    enabled: bool,
+// Whether an unused record is as in a new state.
+fn is_fresh(
     start: Address,
     end: Address,
     previous: RecordIndex,
@@ -49,18 +47,15 @@ fn record_ok(
     lprev: RecordIndex,
     lnext: RecordIndex,
 ) -> bool
-    ensures { λ r. ⌜ r ≡ recordOk enabled (start .0) (end .0) (previous .0) (next .0) (lprev .0) (lnext .0) ⌝ }
+    ensures { λ r. ⌜ r ≡ recordOk false (start .0) (end .0) (previous .0) (next .0) (lprev .0) (lnext .0) ⌝ }
 {
-    if enabled {
-        return is_proper(start, end);
-    }
     if start.0 | end.0 != 0 {
         return false;
     }
     is_unlinked(previous, next, lprev, lnext)
 }
 
-// How many records are in use.
+// How many records are in use. Each kind has its own way through the loop: most records are unused, and on theirs nothing is counted.
 pub fn tally_records(
     start: &[u64; POOL],
     end: &[u64; POOL],
@@ -73,11 +68,15 @@ pub fn tally_records(
     ensures { λ r. ⌜ r ≡ records pool (was start) (was end) (was enabled) (was previous) (was next) (was lprev) (was lnext) ⌝ }
 {
     let mut count: usize = 0;
-    let mut i: usize = 0;
-    while i < POOL {
-        let on = enabled[i];
-        if !record_ok(
-            on,
+    for i in 0..POOL {
+        if enabled[i] {
+            if is_proper(Address(start[i]), Address(end[i])) {
+                count += 1;
+                continue;
+            }
+            return Tally::Broken;
+        }
+        if is_fresh(
             Address(start[i]),
             Address(end[i]),
             RecordIndex(previous[i]),
@@ -85,20 +84,9 @@ pub fn tally_records(
             RecordIndex(lprev[i]),
             RecordIndex(lnext[i]),
         ) {
-            return Tally::Broken;
+            continue;
         }
-        count = one_more_if(on, count);
-        i = i + 1;
+        return Tally::Broken;
     }
     Tally::Of(count)
-}
-
-fn one_more_if(on: bool, count: usize) -> usize
-    requires { ⌜ count < 65535 ⌝ }
-    ensures { λ r. ⌜ r ≡ cond on (suc count) count ⌝ }
-{
-    if on {
-        return count + 1;
-    }
-    count
 }
