@@ -1,6 +1,7 @@
 """A page of the guide taken apart: its blocks, and the headings, code spans, links and tables of its text."""
 import re
 from dataclasses import dataclass, field
+from functools import cached_property
 
 FILES = {"c", "rust", "toml", "text"}  # files of the reader's, where the line above names one
 PARTS = {"rattle", "antt"}  # parts of the project's own files, which the line above names
@@ -9,6 +10,7 @@ MACHINES = {"", "x86_64", "aarch64"}  # a block of kind sh may be for one kind o
 
 NAMED = re.compile(r"`([^`]+)`:$")
 SPAN = re.compile(r"`([^`]+)`")
+HEADING = re.compile(r"(#+) (.*)")
 LINK = re.compile(r"\[[^\]]*\]\(([^)]+)\)")
 
 
@@ -43,10 +45,13 @@ class Page:
 
     def headings(self):
         """Line, level and words of each heading."""
-        for number, line in enumerate(self.text, 1):
-            marks = re.match(r"(#+) (.*)", line)
-            if marks:
-                yield number, len(marks[1]), marks[2]
+        return self._headings
+
+    @cached_property
+    def _headings(self):
+        """Asked for once the page is whole, and then at every name on it."""
+        found = ((number, HEADING.match(line)) for number, line in enumerate(self.text, 1))
+        return [(number, len(marks[1]), marks[2]) for number, marks in found if marks]
 
     def spans(self):
         """Line and words of each piece of text between backquotes."""

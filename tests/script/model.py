@@ -15,7 +15,12 @@ def down(x, order):
 class Book:
     def __init__(self, records):
         self.records = records
-        self.shelf = []  # [start, last, record], by size; among equals the newest first
+        self.shelf = []  # (start, last, record), by size; among equals the newest first
+
+    def copy(self):
+        other = Book(self.records)
+        other.shelf = self.shelf[:]
+        return other
 
     def chain(self):
         return sorted(self.shelf)

@@ -35,13 +35,24 @@ def built():
     return glob.glob(os.path.join(ROOT, "target", "run", f"script.{platform.machine()}.*"))[0]
 
 
-def from_file(given, command=PROGRAM, **more):
-    """The output and the exit status, with the input in a file, so that a read takes as much as it asks for."""
+def _ended(given, command, **more):
     with tempfile.TemporaryFile() as held:
         held.write(given)
         held.seek(0)
-        ended = subprocess.run(command, stdin=held, stdout=subprocess.PIPE, stderr=subprocess.PIPE, **more)
+        return subprocess.run(command, stdin=held, stdout=subprocess.PIPE, stderr=subprocess.PIPE, **more)
+
+
+def from_file(given, command=PROGRAM, **more):
+    """The output and the exit status, with the input in a file, so that a read takes as much as it asks for."""
+    ended = _ended(given, command, **more)
     return ended.stdout, ended.returncode
+
+
+def directly(given):
+    """The same of the program's own file, without the command around it, which asks at each call whether a crate has changed. A word on
+    standard error is a failure: the program has no other status."""
+    ended = _ended(given, [built()])
+    return ended.stdout, ended.returncode or int(bool(ended.stderr))
 
 
 def byte_by_byte(given):

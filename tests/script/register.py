@@ -1,6 +1,5 @@
 """The script after a first line `holders`: the readings of request T-07, its table of cases, first lines of every kind, and random scripts, whose answers a
 plain model of the request gives."""
-import copy
 import os
 import random
 import sys
@@ -30,7 +29,7 @@ class Register:
 
     def free(self, start, size, not_yours, entries):
         """5 after every 4 and before 1; accepted, the register has these entries."""
-        asked = copy.deepcopy(self.book)
+        asked = self.book.copy()
         refusal = asked.free(start, size)
         if refusal == 4 or not_yours:
             return 4 if refusal == 4 else 5
@@ -51,7 +50,7 @@ class Register:
         """The refusal and the address; 6 only where the allocator would accept."""
         if holder not in HOLDERS:
             return 4, 0
-        asked = copy.deepcopy(self.book)
+        asked = self.book.copy()
         refusal, address = ask(asked)
         if refusal:
             return refusal, 0

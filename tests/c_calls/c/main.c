@@ -13,9 +13,9 @@ int main(int count, char **words)
     test_contract();
     test_cases(words[1]);
     test_lists();
-    test_own();
     test_accounts();
     test_holders(words[2]);
+    test_own(); /* the longest, last: most of the ports broken on purpose are noticed before */
     printf("%lu calls, %lu failures\n", calls_made, failures);
     return failures ? 1 : 0;
 }

@@ -1,23 +1,29 @@
 //! What a run counts and how it ends.
 
-use std::process::ExitCode;
+use std::env;
+use std::process::{exit, ExitCode};
 
 const FAILURES_SHOWN: u64 = 10;
 
 pub struct Report {
     pub calls: u64,
     pub failures: u64,
+    /// The port is broken on purpose: it is noticed once.
+    is_broken: bool,
 }
 
 impl Report {
     pub fn new() -> Report {
-        Report { calls: 0, failures: 0 }
+        Report { calls: 0, failures: 0, is_broken: env::var_os("C_CALLS_BREAKAGE").is_some() }
     }
 
     pub fn fail(&mut self, what: &str) {
         self.failures += 1;
         if self.failures <= FAILURES_SHOWN {
             println!("FAILED: {what}");
+        }
+        if self.is_broken {
+            exit(1);
         }
     }
 
