@@ -5,7 +5,7 @@ one check of the crate tries them all. Then each begins with a line `# NAME, in 
 is wrong` where two are in one function: NEED is the declaration of the function's proof that fails. A mistake in a definition may be seen
 by a law instead: FUNCTION is the file of `proofs/` that has it, and NEED the law.
 
-Those of `must-fail/copies/*.edit` are tried by tests/edits, each in a copy of its FUNCTION (tests/copies.py), so that none wants a NEED.
+Those of `must-fail/copies/*.edit` are tried by tests/edits, each in a copy of its FUNCTION (tests/wrong_copies.py), so that none wants a NEED.
 """
 import re
 from dataclasses import dataclass
