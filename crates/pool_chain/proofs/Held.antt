@@ -19,6 +19,7 @@ module _ (n : ℕ) (b : Book) (s : MemoryAllocator) where
         };
         leads = t .chained .leads;
         apart = t .sound .apart;
+        clear = λ i k f. t .kept .clear i k f .0;
       }
 
   pub chain-placed : (x y a : ℕ) → Holds n b s → Gapped startOf (b .chain) a x y → Placed n (b .chain) (s .start) (s .end) x y a

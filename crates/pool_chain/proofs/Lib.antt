@@ -3,3 +3,4 @@ pub mod Chain
 pub mod Neighbours
 pub mod Overlap
 pub mod Held
+pub mod Nearest

@@ -4,6 +4,7 @@ use mathlib.Core.Bool.{true}
 use mathlib.Core.Logic.{_≢_}
 use mathlib.Core.List.{List, _++_, _∷_}
 use mathlib.Core.Path.{_≡_}
+use lib.ListN.{getD}
 use Rattle.linked_lists.specs.Links.{none, head, lastFrom, has}
 use Rattle.rules.specs.Rules.{Range, startOf, without}
 use Rattle.rules.specs.Sound.{In, Pairwise, Ahead, Good}
@@ -30,11 +31,16 @@ Enchained n b i a first prev next =
     (q : Range) (l r : List Range) → q .number ≡ i → Enters n (was first) (was prev) (was next) b a q l r
     → Chained n (l ++ q ∷ r) (is first) (is prev) (is next)
 
--- the links lead from `first` along the ranges of c, which are by address
+-- the links lead from `first` along the ranges of c, which are by address; any other record starts at 0
 pub record Ordered (n : ℕ) (c : List Range) (start end next : List ℕ) (first : ℕ) : Type 0 where
   pub runs : Runs n c start end next
   pub leads : first ≡ head (numbers c)
   pub apart : Pairwise Ahead c
+  pub clear : (i : ℕ) → i < n → ((r : Range) → In r c → i ≢ r .number) → getD start i 0 ≡ 0
+
+-- where i is a record, it starts below the address, and not at 0
+abbrev pub StartsBelow : ℕ → List ℕ → ℕ → ℕ → Type 0
+StartsBelow n start address i = i ≢ none → (i < n) × (0 < getD start i 0) × (getD start i 0 < address)
 
 -- the records x and y stand on either side of the place of an address in the chain c
 pub record Placed (n : ℕ) (c : List Range) (start end : List ℕ) (x y address : ℕ) : Type 0 where

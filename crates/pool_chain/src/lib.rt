@@ -10,17 +10,21 @@ use pool_state::NONE;
 use pool_state::POOL;
 use pool_state::RecordIndex;
 ghost use mathlib.Core.Path.{_≡_};
+ghost use mathlib.Core.Logic.{_≢_};
 ghost use mathlib.Core.Bool.{true, _&&_};
-ghost use lib.Dec.{leb, ltb};
+ghost use lib.Dec.{eqb, leb, ltb};
 ghost use lib.ListN.{getD};
 ghost use Prim.Native.Nat.{ℕ, _<_, _≤_};
 ghost use mathlib.Core.List.{List};
-ghost use Rattle.linked_lists.specs.Links.{has, head};
+ghost use Rattle.linked_lists.specs.Links.{none, pick};
 ghost use Rattle.rules.specs.Rules.{top, Range, startOf, any, find, contains, meets};
-ghost use Rattle.pool_state.specs.Shown.{pool, numbers, Runs, Gapped};
+ghost use Rattle.pool_state.specs.Shown.{pool, Runs, Walked, Gapped};
 ghost use Rattle.pool_state.specs.Lent.{was};
-ghost use Rattle.pool_chain.specs.Chain.{Ordered, Placed, Unchained, Enchained};
+ghost use Rattle.pool_chain.specs.Chain.{Ordered, StartsBelow, Placed, Unchained, Enchained};
 ghost use Rattle.pool_links.specs.Hits.{hitOf};
+
+// Of so many records a search asks one where to begin.
+const STRIDE: usize = 8;
 
 // Record i goes out of the chain.
 pub fn unchain(first: &mut u16, prev: &mut [u16; POOL], next: &mut [u16; POOL], i: RecordIndex)
@@ -49,19 +53,54 @@ pub fn enchain(
     link_between(prev, next, b, i, a);
 }
 
-// The place of an address in the chain: after the last range that starts below it.
-// In MiniVisor: search_entry_previous_address_mut.
-pub fn search_entry_previous_address(
+// A record to begin a search at: of every eighth, up to the first that starts at 0 as unused ones do, the one that starts nearest below
+// the address. Whichever it is, the same place is found; only the steps to it differ.
+fn nearest_below(start: &[u64; POOL], address: Address) -> RecordIndex
+    ensures { λ r. ⌜ StartsBelow pool (was start) (address .0) (r .0) ⌝ }
+{
+    let mut nearest: u16 = NONE;
+    let mut from: u64 = 0;
+    let mut k = STRIDE;
+    while k < POOL {
+        let at = start[k];
+        if at == 0 {
+            return RecordIndex(nearest);
+        }
+        if from < at {
+            if at < address.0 {
+                from = at;
+                nearest = k as u16;
+            }
+        }
+        k = k + STRIDE;
+    }
+    RecordIndex(nearest)
+}
+
+// The record after another in the chain; the first where there is no other.
+fn entry_after(next: &[u16; POOL], first: RecordIndex, i: RecordIndex) -> RecordIndex
+    requires { ⌜ (i .0 ≢ none → i .0 < pool) ⌝ }
+    ensures { λ r. ⌜ r .0 ≡ pick (eqb (i .0) none) (first .0) (getD (was next) (i .0) 0) ⌝ }
+{
+    if i.0 == NONE {
+        return first;
+    }
+    link_of(next, i)
+}
+
+// The place of an address in the chain, from one between two records that is not past it.
+fn search_on(
     start: &[u64; POOL],
     next: &[u16; POOL],
-    first: RecordIndex,
+    low: RecordIndex,
+    high: RecordIndex,
     address: Address,
 ) -> Gap
-    requires { ⌜ ((c : List Range) × (end : List ℕ) × Runs pool c (now start) end (now next) × (first .0 ≡ head (numbers c))) ⌝ }
-    ensures { λ g. ⌜ ((c : List Range) (end : List ℕ) → Runs pool c (was start) end (was next) → first .0 ≡ head (numbers c) → Gapped startOf c (address .0) (g .before .0) (g .after .0)) ⌝ }
+    requires { ⌜ ((c : List Range) × (end : List ℕ) × Runs pool c (now start) end (now next) × Walked startOf c (address .0) (low .0) (high .0)) ⌝ }
+    ensures { λ g. ⌜ ((c : List Range) (end : List ℕ) → Runs pool c (was start) end (was next) → Walked startOf c (address .0) (low .0) (high .0) → Gapped startOf c (address .0) (g .before .0) (g .after .0)) ⌝ }
 {
-    let mut before = RecordIndex(NONE);
-    let mut cur = first;
+    let mut before = low;
+    let mut cur = high;
     while cur.0 != NONE {
         let n = cur.0 as usize;
         if address.0 <= start[n] {
@@ -77,6 +116,22 @@ pub fn search_entry_previous_address(
         before: before,
         after: cur,
     }
+}
+
+// The place of an address in the chain: after the last range that starts below it.
+// In MiniVisor: search_entry_previous_address_mut.
+pub fn search_entry_previous_address(
+    start: &[u64; POOL],
+    next: &[u16; POOL],
+    first: RecordIndex,
+    address: Address,
+) -> Gap
+    requires { ⌜ ((c : List Range) × (end : List ℕ) × Ordered pool c (now start) end (now next) (first .0)) ⌝ }
+    ensures { λ g. ⌜ ((c : List Range) (end : List ℕ) → Ordered pool c (was start) end (was next) (first .0) → Gapped startOf c (address .0) (g .before .0) (g .after .0)) ⌝ }
+{
+    let low = nearest_below(start, address);
+    let high = entry_after(next, first, low);
+    search_on(start, next, low, high, address)
 }
 
 // The range that holds the bytes from `address` to before `past`.

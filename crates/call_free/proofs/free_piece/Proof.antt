@@ -23,7 +23,7 @@ search-entry-previous-address-requires : tie.Need-search-entry-previous-address-
 search-entry-previous-address-requires c κs =
     let u = c .before .before .before .pre .0 in
     let o = chain-ordered pool (u .0) _ (u .1) in
-    (u .0 .chain, _, o .runs, o .leads)
+    (u .0 .chain, _, o)
 
 overlaps-neighbour-requires : tie.Need-overlaps-neighbour-requires
 overlaps-neighbour-requires c κs = at-start (c .before .before .before .before) .pre .1 .0
@@ -32,7 +32,7 @@ returns : tie.Need-returns
 returns c b h =
     let w = c .before in
     let o = chain-ordered pool b _ h in
-    let g = at-gap w .search-entry-previous-address .ensures (b .chain) _ (o .runs) (o .leads) in
+    let g = at-gap w .search-entry-previous-address .ensures (b .chain) _ o in
     refusal pool 4 b _ InvalidRequest _
     (free-overlaps pool _ _ b (sym (w .overlaps-neighbour .ensures (b .chain) (chain-placed pool b _ _ _ _ h g)) ∙ c .if1 .taken))
     refl refl h
@@ -44,7 +44,7 @@ define-free-memory-requires c κs =
     let p = at-start s .pre in
     let u = p .0 in
     let o = chain-ordered pool (u .0) _ (u .1) in
-    let g = s .search-entry-previous-address .ensures (u .0 .chain) _ (o .runs) (o .leads) in
+    let g = s .search-entry-previous-address .ensures (u .0 .chain) _ o in
     let n = sym (e .before .overlaps-neighbour .ensures (u .0 .chain) (chain-placed pool (u .0) _ _ _ _ (u .1) g)) ∙ e .if1 .left in
     (u .0, offers pool _ _ (u .0) _ _ _ (u .1) g (p .1 .0) (p .1 .1) n)
 
@@ -58,7 +58,7 @@ returns-2 c b h =
     let s = at-gap (e .before) in
     let p = at-start s .pre in
     let o = chain-ordered pool b _ h in
-    let g = s .search-entry-previous-address .ensures (b .chain) _ (o .runs) (o .leads) in
+    let g = s .search-entry-previous-address .ensures (b .chain) _ o in
     let n = sym (e .before .overlaps-neighbour .ensures (b .chain) (chain-placed pool b _ _ _ _ h g)) ∙ e .if1 .left in
     moved pool _ b _ _ _ (free-answer pool _ _ b n) _ _ (d .define-free-memory .ensures b (offers pool _ _ b _ _ _ h g (p .1 .0) (p .1 .1) n)) (c .enum-told .given .1)
 
@@ -72,7 +72,7 @@ returns-3 c b h =
     let s = at-gap (e .before) in
     let p = at-start s .pre in
     let o = chain-ordered pool b _ h in
-    let g = s .search-entry-previous-address .ensures (b .chain) _ (o .runs) (o .leads) in
+    let g = s .search-entry-previous-address .ensures (b .chain) _ o in
     let n = sym (e .before .overlaps-neighbour .ensures (b .chain) (chain-placed pool b _ _ _ _ h g)) ∙ e .if1 .left in
     unmoved pool _ b _ _ _ (free-answer pool _ _ b n) _ _ (d .define-free-memory .ensures b (offers pool _ _ b _ _ _ h g (p .1 .0) (p .1 .1) n)) (c .enum-told2 .given .1)
 

@@ -10,7 +10,7 @@ overlaps-neighbour-requires c κs = search needs
 
 returns : tie.Need-returns
 returns c = λ chain o.
-    let g = c .before .search-entry-previous-address .ensures chain _ (o .runs) (o .leads) in
+    let g = c .before .search-entry-previous-address .ensures chain _ o in
     c .overlaps-neighbour .ensures chain (record { good = o .runs .good; stand = o .runs .stand; apart = o .apart; gap = g })
 
 pub meets-free-spec : {M : Type 1} → statement M

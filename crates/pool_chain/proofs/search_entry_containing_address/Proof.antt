@@ -24,7 +24,7 @@ search-entry-previous-address-requires c κs = search needs
 gapped : (c : tie.After-i) → let x = c .before .before .before .args in
     (l : List Range) → Ordered pool l (x .start .now) (x .end .now) (x .next .now) (x .first .0) → Gapped startOf l (x .address .0 + 1)
     (c .before .search-entry-previous-address .result .before .0) (c .before .search-entry-previous-address .result .after .0)
-gapped c l o = c .before .search-entry-previous-address .ensures l _ (o .runs) (o .leads)
+gapped c l o = c .before .search-entry-previous-address .ensures l _ o
 
 low : (c : tie.Else1) (l : List Range) (o : Ordered pool l _ _ _ _)
     → Below pool (lit≤ tt) l (o .runs .good) (o .apart) _ _ _ (gapped (c .before .before) l o)
