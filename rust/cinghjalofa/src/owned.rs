@@ -27,7 +27,7 @@ pub struct MemoryAllocator {
 }
 
 /// The same allocator, with the same calls and answers, which trusts its memory: no call but a list asks whether the state is
-/// sound, and so each takes about as long as the module's.
+/// sound, and so each takes less time than the module's.
 ///
 /// The state is private, it is made by `new` or by a checked `from_image`, and proved calls alone change it: so it is sound,
 /// unless something writes over the allocator's memory, by `unsafe` code or from outside the program. After such a write
