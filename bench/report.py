@@ -162,6 +162,8 @@ and out of it.
 - The caller's own work: its lock, and the words of a list, which are written before the clock runs.
 - Cold caches. All calls of a path come one after the other, and the state stays in the processor's nearest memory.
 - An interrupted list: it holds the caller's lock for all of its calls.
+- Record numbers that lie badly. A free or a reserve begins its walk at the nearest of every eighth record below the address; where all of these lie
+  above it, the walk is as long as the module's. Here the ranges got their records from the lowest address on, and then as the calls came.
 - The module's errors. Its total drifts, and some of its answers are wrong (docs/DIFFERENCES.md); the time for them counts as it is.
 - Machines of another kind. Ratios are of one run on one processor; another one has others, and none is a promise.
 
