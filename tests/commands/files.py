@@ -70,6 +70,31 @@ def written_over(folder):
     yield "and is upgraded", None if (folder / "copy").read_bytes() == NEW.read_bytes() else "it is not"
 
 
+def to_a_stream(folder):
+    """Standard output, through a file and a pipe; not where messages go."""
+    new, held = folder / "new", NEW.read_bytes()
+    for place in ("/dev/stdout", "/dev/fd/1"):
+        for way, command in (("a file", f">'{new}'"), ("a pipe", f"| cat >'{new}'")):
+            new.unlink(missing_ok=True)
+            ended = shell(f"set -o pipefail; '{RUN}' upgrade '{OLD}' {place} {command}")
+            yield f"upgrade to {place}, {way}", ended.problem(0, "", "") or (None if new.read_bytes() == held else f"{new.stat().st_size} bytes came")
+    yield "upgrade without standard output", shell(f"'{RUN}' upgrade '{OLD}' '{new}' >&-").problem(0, "", "")
+    said = "run: /dev/stderr is where messages go, and an image is written to a file\n"
+    yield "upgrade to /dev/stderr", shell(f"'{RUN}' upgrade '{OLD}' /dev/stderr").problem(2, "", said)
+    yield "upgrade to nowhere", shell(f"'{RUN}' upgrade '{OLD}' /dev/null 2>/dev/null").problem(0, "", "")
+
+
+def like_options(folder):
+    """A word that begins with `-` is no file, but after `--`."""
+    for words, word in ((["--help", "new"], "--help"), ([OLD, "--help"], "--help"), ([OLD, "-"], "-")):
+        said = f"run: `upgrade` has no option {word}; a file of that name is named after `--`\nusage: ./run upgrade OLD NEW\n"
+        yield f"upgrade {words}", run([RUN, "upgrade", *words], cwd=folder).problem(2, "", said)
+    left = [path.name for path in folder.iterdir()]
+    yield "then no file is made", f"{left} is" if left else None
+    yield "upgrade --", run([RUN, "upgrade", "--", OLD, "-x"], cwd=folder).problem(0, "", "")
+    yield "that file is made", None if (folder / "-x").read_bytes() == NEW.read_bytes() else "it is another"
+
+
 def no_image(folder):
     """What is refused leaves nothing, and the refusal itself may be one that cannot be written."""
     place, made = folder / "temporary", folder / "made"
@@ -88,7 +113,7 @@ def cases():
         if built.status:
             yield f"the program {program}", built.problem(0, None, None)
             return
-    for group in (counted, empty, full, written_over, no_image):
+    for group in (counted, empty, full, written_over, to_a_stream, like_options, no_image):
         with tempfile.TemporaryDirectory() as folder:
             for what, problem in group(Path(folder)):
                 yield f"./run: {what}", problem
