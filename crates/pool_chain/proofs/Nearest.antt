@@ -1,27 +1,20 @@
 -- A search along the chain may begin at any record that starts below the address. Assumes nothing.
 use Prim.Native.Nat.{ℕ, _<_, _≤_}
 use mathlib.Core.Bool.{Bool, true, false}
-use mathlib.Core.Logic.{_≢_, inl, inr, ⊎-elim}
-use mathlib.Core.List.{List, [], _∷_, _++_}
+use mathlib.Core.Logic.{_≢_, ⊎-elim}
+use mathlib.Core.List.{List, _∷_}
 use mathlib.Core.Path.{_≡_, refl, sym, ap, _∙_, subst}
 use lib.Dec.{eqb}
 use lib.ListN.{getD}
-use lib.Seq.{append-snoc}
 use native.Mathlib.Omega.{arith}
 use borrow.Author.Tests.{eq-eqb, ne-eqb}
 use Rattle.linked_lists.specs.Links.{none, pick, has, lastFrom}
 use Rattle.linked_lists.proofs.Laws.{same?, true≢false}
 use Rattle.rules.specs.Rules.{Range, startOf}
 use Rattle.rules.specs.Sound.{In, Ahead}
-use Rattle.pool_state.specs.Shown.{numbers, at, Walked}
-use Rattle.pool_state.proofs.Walks.{in-right, in-left, in-has, has-in, walk-starts, walk-on, Stands}
+use Rattle.pool_state.specs.Shown.{numbers, Walked}
+use Rattle.pool_state.proofs.Walks.{in-left, in-has, has-in, part, pair-low, walk-starts, walk-on, Stands}
 use Rattle.pool_chain.specs.Chain.{Ordered, StartsBelow}
-use Rattle.pool_chain.proofs.Neighbours.{pair-last}
-
--- a range of a list has a part of it before itself, and one after
-parted : (q : Range) (l : List Range) → In q l → (low : List Range) × (high : List Range) × (l ≡ low ++ q ∷ high)
-parted q (p ∷ l) (inl e) = ([], l, ap (λ (x : Range). x ∷ l) (sym e))
-parted q (p ∷ l) (inr m) = let w = parted q l m in (p ∷ w .0, w .1, ap (λ (k : List Range). p ∷ k) (w .2))
 
 module _ (n : ℕ) (small : n ≤ none) (c : List Range) (start end next : List ℕ) (first : ℕ) (o : Ordered n c start end next first) (s i : ℕ) where
   -- a record that does not start at 0 is one of the chain's
@@ -37,7 +30,7 @@ module _ (n : ℕ) (small : n ≤ none) (c : List Range) (start end next : List 
   -- the ranges before one that starts below the address start below it too
   stands-there : (q : Range) → In q c → i ≡ q .number → q .start < s → (b : ℕ) × Stands n small startOf c start end next (o .runs) s b i
   stands-there q m e h =
-      let w = parted q c m in (
+      let w = part q c m in (
         lastFrom none (numbers (w .0)),
         record {
           low = w .0;
@@ -45,7 +38,7 @@ module _ (n : ℕ) (small : n ≤ none) (c : List Range) (start end next : List 
           high = w .1;
           parts = w .2;
           smaller = λ p j.
-              let a = pair-last Ahead (w .0) q (w .1) (rw (w .2 ∙ sym (append-snoc (w .0) q (w .1))) at (o .apart)) p j in
+              let a = pair-low Ahead (w .0) q (w .1) (rw (w .2) at (o .apart)) p j in
               let g = o .runs .good p (rw (w .2) (in-left p (w .0) (q ∷ w .1) j)) .proper in
               omega arith;
           at-last = refl;

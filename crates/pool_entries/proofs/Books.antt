@@ -21,22 +21,8 @@ use Rattle.pool_state.specs.declared.MemoryAllocator.{MemoryAllocator}
 use Rattle.pool_shelf.specs.Shelf.{Removes, Places, Resizes}
 use Rattle.pool_chain.specs.Chain.{Enters}
 use Rattle.pool_entries.specs.Entries.{Replaces, Inserts, Drops}
-use Rattle.pool_state.proofs.Walks.{numbers-append, in-left, in-right, in-has, has-in, without-fresh, fresh-numbers, before-at}
+use Rattle.pool_state.proofs.Walks.{numbers-append, in-left, in-right, in-has, has-in, part, pair-low, pair-high, without-fresh, fresh-numbers, before-at}
 use Rattle.pool_shelf.proofs.Shelf.{range-at, range-other, reslot}
-
--- ---- a member parts a list
-
-pub part : (r : Range) (c : List Range) → In r c → (l : List Range) × (u : List Range) × (c ≡ l ++ r ∷ u)
-part r (q ∷ c) (inl e) = ([], c, ap (λ (x : Range). x ∷ c) (sym e))
-part r (q ∷ c) (inr i) = let w = part r c i in (q ∷ w .0, w .1, ap (λ (k : List Range). q ∷ k) (w .2))
-
-pub pair-low : (R : Range → Range → Type 0) (l : List Range) (r : Range) (u : List Range) → Pairwise R (l ++ r ∷ u) → (p : Range) → In p l → R p r
-pair-low R (q ∷ l) r u h p (inl e) = subst (λ (x : Range). R x r) (sym e) (h .0 r (in-right r l (r ∷ u) (inl refl)))
-pair-low R (q ∷ l) r u h p (inr i) = pair-low R l r u (h .1) p i
-
-pub pair-high : (R : Range → Range → Type 0) (l : List Range) (r : Range) (u : List Range) → Pairwise R (l ++ r ∷ u) → (p : Range) → In p u → R r p
-pair-high R [] r u h p i = h .0 p i
-pair-high R (q ∷ l) r u h p i = pair-high R l r u (h .1) p i
 
 pub without-part : (l : List Range) (r : Range) (u : List Range) → Pairwise Other (l ++ r ∷ u) → without (r .number) (l ++ r ∷ u) ≡ l ++ u
 unfolding without

@@ -12,8 +12,7 @@ use Rattle.linked_lists.specs.Links.{none, head, lastFrom, Fresh, Listed, has, 
 use Rattle.linked_lists.specs.Links as links
 use Rattle.linked_lists.proofs.Laws.{same?, after-mid, last-snoc, steps-walk, length-listed, true≢false, has-cons}
 use Rattle.rules.specs.Rules.{Range, before, without}
-use Rattle.rules.specs.Sound.{In}
-use Rattle.rules.specs.Sound.{Good}
+use Rattle.rules.specs.Sound.{In, Pairwise, Good}
 use Rattle.pool_state.specs.Shown.{numbers, at, Runs, Walked, Gapped, Stops}
 
 -- ---- numbers
@@ -54,6 +53,20 @@ fresh-numbers i (p ∷ l) h = (h p (inl refl), fresh-numbers i l (λ q m. h q (i
 pub in-fresh : (i : ℕ) (l : List Range) → Fresh i (numbers l) → (q : Range) → In q l → i ≢ q .number
 in-fresh i (p ∷ l) f q (inl e) = subst (λ (x : Range). i ≢ x .number) (sym e) (f .0)
 in-fresh i (p ∷ l) f q (inr m) = in-fresh i l (f .1) q m
+
+-- ---- a member parts a list
+
+pub part : (r : Range) (c : List Range) → In r c → (l : List Range) × (u : List Range) × (c ≡ l ++ r ∷ u)
+part r (q ∷ c) (inl e) = ([], c, ap (λ (x : Range). x ∷ c) (sym e))
+part r (q ∷ c) (inr i) = let w = part r c i in (q ∷ w .0, w .1, ap (λ (k : List Range). q ∷ k) (w .2))
+
+pub pair-low : (R : Range → Range → Type 0) (l : List Range) (r : Range) (u : List Range) → Pairwise R (l ++ r ∷ u) → (p : Range) → In p l → R p r
+pair-low R (q ∷ l) r u h p (inl e) = subst (λ (x : Range). R x r) (sym e) (h .0 r (in-right r l (r ∷ u) (inl refl)))
+pair-low R (q ∷ l) r u h p (inr i) = pair-low R l r u (h .1) p i
+
+pub pair-high : (R : Range → Range → Type 0) (l : List Range) (r : Range) (u : List Range) → Pairwise R (l ++ r ∷ u) → (p : Range) → In p u → R r p
+pair-high R [] r u h p i = h .0 p i
+pair-high R (q ∷ l) r u h p i = pair-high R l r u (h .1) p i
 
 -- ---- without and before, on ranges and on numbers
 

@@ -22,8 +22,8 @@ use Rattle.pool_entries.specs.Entries.{Replaces, Inserts, Drops}
 use Rattle.pool_state.specs.declared.MemoryAllocator.{MemoryAllocator}
 use Rattle.pool_take.specs.Take.{Asks, refuses, Takes}
 use Rattle.pool_entries.specs.declared.Moving.the-variants.{Done, NoRecord}
-use Rattle.pool_state.proofs.Walks.{numbers-append, in-left, in-either}
-use Rattle.pool_entries.proofs.Books.{part, pair-low, pair-high, replace-chain, resized, swap-resizes, swap-shape}
+use Rattle.pool_state.proofs.Walks.{numbers-append, in-left, in-either, part, pair-low, pair-high}
+use Rattle.pool_entries.proofs.Books.{replace-chain, resized, swap-resizes, swap-shape}
 use Rattle.pool_entries.proofs.Moves.{recount, recounted, done, refused}
 
 -- ---- totals, without subtraction
