@@ -1,4 +1,6 @@
 // Numbers in bytes, the most significant first, over any width.
+#![tactic(auto)]
+
 ghost use Rattle.std.specs.Prelude.{◌≡◌, ◌≤◌, ◌<◌, ◌^◌, length};
 ghost use Rattle.bytes_be.specs.Numbers.{be, number};
 

@@ -1,4 +1,6 @@
 // Rounding, and the list of a size.
+#![tactic(auto)]
+
 ghost use Rattle.std.specs.Prelude.{◌≡◌, ◌+◌, ◌-◌, ◌<◌, ◌≤◌};
 ghost use Rattle.rules.specs.Rules.{size_lists, top, down, up, list_number};
 
@@ -46,7 +48,7 @@ pub fn align_up(x: u64, order: u64) -> u64
 }
 
 // A piece of the addresses: its first byte, and how many bytes it has.
-#[derive(Drop)]
+#[derive(Clone, Copy)]
 pub struct Aligned {
     pub start: Address,
     pub size: u64,

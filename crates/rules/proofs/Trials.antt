@@ -1,10 +1,8 @@
 -- The claims about the cases beside the ledger, by computation. Assumes nothing.
 use mathlib.Core.Path.{◌≡◌, refl}
-use mathlib.Core.Bool.{Bool}
 use mathlib.Core.List.{List, [], ◌∷◌, map}
-use Prim.Native.Nat.{ℕ, ◌^◌}
 use lib.Dec.{leb}
-use Rattle.rules.specs.Rules.{top, records, size_lists, Range, Book, size, listing, sum, total, before, without, put, remove, any, find, lowest, unused, least, list_number, down, up, free_at, taken, joined, given, refuse, allocate_from, allocate, reserve_from, reserve, free, Call, Free, Allocate, Reserve, step, empty, last_covering, count, back, tally, of_list, lists}
+use Rattle.rules.specs.Rules.{top, records, size_lists, Range, size, listing, sum, total, before, without, put, remove, any, find, lowest, unused, least, list_number, down, up, free_at, taken, joined, given, refuse, allocate_from, allocate, reserve_from, reserve, free, Free, Allocate, Reserve, step, empty, last_covering, count, back, tally, of_list, lists}
 use Rattle.rules.specs.Ledger.{bounds, play}
 use Rattle.rules.specs.Trials.{Trial, shown, left, vouchers_of, placed, refusals, emptied, looked_on, small, bytes, is_free, by_book, by_vouchers, gone, returned, few, gone_free, returned_free, sizes, list_numbers, several}
 

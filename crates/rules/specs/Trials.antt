@@ -1,8 +1,8 @@
 -- Cases beside the ledger's: each line of the rules decides one of them at least, so that a changed line changes what a case prints or leaves.
 -- proofs/Trials.antt has the claims. `placed`, `refusals` and `emptied` are the sections of tests/cases.txt with these names: `tools/cases` writes
 -- them. Assumes nothing.
-use Rattle.std.specs.Prelude.{Bool, true, false, cond, List, [], ◌∷◌, ◌++◌, map, ℕ}
-use Rattle.rules.specs.Rules.{records, Range, Book, empty, free_at, Call, Free, Allocate, Reserve, step, Voucher, voucher, last_covering, said}
+use Rattle.std.specs.Prelude.{Bool, true, false, List, [], ◌∷◌, map, ℕ}
+use Rattle.rules.specs.Rules.{records, Range, Book, empty, free_at, step, Voucher, voucher, last_covering, said}
 use Rattle.rules.specs.Ledger.{Line, call, l, f, a, r, ok, at, nay}
 
 -- lines from empty with so many records: what they print, and the book that they leave, by address and by size, each range with the number of its record

@@ -3,7 +3,7 @@
 use Prim.Native.Nat.{ℕ}
 use mathlib.Core.List.{List, [], ◌∷◌}
 use mathlib.Core.Path.{sym, subst}
-use Rattle.rules.specs.Rules.{Book, empty, Call, Voucher, voucher, step}
+use Rattle.rules.specs.Rules.{Book, Call, voucher, step}
 use Rattle.rules.specs.Sound.{Sound}
 use Rattle.rules_laws.proofs.Multiples.{Blocks, Moves, step-blocks, Whole, whole-moves}
 use Rattle.rules_engine.specs.Engine.{Engine, after}

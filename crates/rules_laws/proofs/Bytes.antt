@@ -19,13 +19,17 @@ unfolding count
 count_none zero = refl
 count_none (suc m) = omega (arith, count_none m)
 
+either-one : (a b : Bool) → (T a → T b → ⊥) → cond (a || b) 1 0 ≡ cond a 1 0 + cond b 1 0
+either-one true true f = absurd (f tt tt)
+either-one true false f = refl
+either-one false true f = refl
+either-one false false f = refl
+
 count-either : (m : ℕ) (p q : ℕ → Bool) → ((x : ℕ) → T (p x) → T (q x) → ⊥) → count m (λ x. p x || q x) ≡ count m p + count m q
 unfolding count
 count-either zero p q h = refl
 count-either (suc m) p q h = let i = count-either m p q h in
-    let e : (a b : Bool) → (T a → T b → ⊥) → cond (a || b) 1 0 ≡ cond a 1 0 + cond b 1 0
-    = λ a. elim a [ true ↦ λ b. elim b [ true ↦ λ f. absurd (f tt tt) | false ↦ λ f. refl ] | false ↦ λ b. elim b [ true ↦ λ f. refl | false ↦ λ f. refl ] ] in
-    omega (arith, e (p m) (q m) (h m))
+    omega (arith, either-one (p m) (q m) (h m))
 
 holds→ : (x : ℕ) (r : Range) → T (holds x r) → (r.start ≤ x) × (x ≤ r.last)
 holds→ x r t = (leb→le r.start x (and_l (leb r.start x) (leb x r.last) t), leb→le x r.last (and_r (leb r.start x) (leb x r.last) t))

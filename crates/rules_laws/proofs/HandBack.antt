@@ -2,7 +2,7 @@
 use mathlib.Core.Path.{◌≡◌, refl, sym, ◌∙◌, ap, subst}
 use mathlib.Core.Logic.{◌⊎◌, inl, inr}
 use mathlib.Core.Bool.{Bool, not, ◌&&◌}
-use mathlib.Core.Option.{Option, none}
+use mathlib.Core.Option.{Option, none, some}
 use Prim.Native.Nat.{ℕ, suc, ◌+◌, ◌-◌, ◌≤◌, ◌<◌}
 use native.Mathlib.Omega.{arith}
 use lib.Dec.{T, leb, ltb, eqb, leb→le, nleb→lt, ltb→lt, nltb→le, eqb→eq, eqb_refl}
@@ -51,6 +51,8 @@ module _ (n : ℕ) (b : Book) (r : Range) (a t : ℕ) (s : Sound n b) (k : Takes
   now-room : (lo hi : Option Range) → Found (λ q. eqb (suc q.last) a) (taken n r a t b).chain lo → Found (λ q. eqb q.start t) (taken n r a t b).chain hi
       → T (alone lo hi) → unused n (taken n r a t b) < n
   unfolding unused
+  now-room none (some _) f g h = elim h [ ]
+  now-room (some _) hi f g h = elim h [ ]
   now-room none none f g h =
       let low : a ≤ r.start = elim (T-or-not (ltb r.start a)) [
         | inr j ↦ nltb→le r.start a j

@@ -4,7 +4,7 @@ use mathlib.Core.Logic.{◌≢◌, ◌⊎◌, inl, inr}
 use mathlib.Core.Bool.{Bool, true, false, not, cond, ◌&&◌, ◌||◌}
 use mathlib.Core.List.{List, [], ◌∷◌}
 use mathlib.Core.Option.{Option, none, some}
-use Prim.Native.Nat.{ℕ, zero, suc, ◌+◌, ◌-◌, ◌≤◌, ◌<◌}
+use Prim.Native.Nat.{ℕ, zero, suc, ◌+◌, ◌≤◌, ◌<◌}
 use native.Mathlib.Omega.{arith}
 use lib.Dec.{T, leb, eqb, leb→le, nleb→lt, eqb→eq, eqb_refl}
 use Rattle.rules.specs.Rules.{Range, before, without, any, find, lowest}
@@ -81,6 +81,7 @@ weaker R S (r ∷ l) f h = (λ q i. f r q (inl refl) (inr i) (h.0 q i), weaker R
 
 -- two members are one, or one stands after the other
 pub compared : (R : Range → Range → Type 0) (l : List Range) → Pairwise R l → (q p : Range) → In q l → In p l → (q ≡ p) ⊎ (R q p ⊎ R p q)
+compared R [] h q p x3 _ = elim x3 [ ]
 compared R (r ∷ l) h q p (inl e) (inl e') = inl (e ∙ sym e')
 compared R (r ∷ l) h q p (inl e) (inr j) = inr (inl (subst (λ (x : Range). R x p) (sym e) (h.0 p j)))
 compared R (r ∷ l) h q p (inr i) (inl e') = inr (inr (subst (λ (x : Range). R x q) (sym e') (h.0 q i)))
@@ -126,6 +127,7 @@ in-without→ i (p ∷ l) q = if (eqb i p.number) (λ k. In q k → In q (p ∷ 
 
 pub in-without← : (i : ℕ) (l : List Range) (q : Range) → In q l → i ≢ q.number → In q (without i l)
 unfolding without
+in-without← i [] q m d = elim m [ ]
 in-without← i (p ∷ l) q m d = if (eqb i p.number) (λ k. In q k)
     (λ t. elim m [ inl e ↦ absurd (d (eqb→eq i p.number t ∙ ap (λ (x : Range). x.number) (sym e))) | inr j ↦ in-without← i l q j d ])
     (λ t. elim m [ inl e ↦ inl e | inr j ↦ inr (in-without← i l q j d) ])
@@ -146,6 +148,7 @@ any→ p (q ∷ l) t = elim (or-e (p q) (any p l) t) [ inl s ↦ (q, inl refl, s
 
 pub any← : (p : Range → Bool) (l : List Range) (r : Range) → In r l → T (p r) → T (any p l)
 unfolding any
+any← p [] r x'' t = elim x'' [ ]
 any← p (q ∷ l) r (inl e) t = or_l (p q) (any p l) (subst (λ (x : Range). T (p x)) e t)
 any← p (q ∷ l) r (inr i) t = or_r (p q) (any p l) (any← p l r i t)
 

@@ -9,7 +9,7 @@ use native.Mathlib.Omega.{arith}
 use native.Mathlib.Nat.{add-zero, add-suc, suc-mul, zero-mul, mul-zero, mul-one, mul-add, dvd-zero, dvd-add, dvd_trans, dvd-mul_left, div-mul_cancel, mul-add-div_right, div-eq_of_lt, mul-le-mul_right, lt_of_mul-lt-mul_right}
 use lib.Pow.{pow_pos}
 use lib.Dec.{T, leb, ltb, eqb, leb→le, le→leb, lt→ltb, ltb→lt, eqb→eq}
-use Rattle.rules.specs.Rules.{Range, Book, down, up, find, put, remove, free_at, full, fit, serves, put_if, taken, joined, lower, upper, given, Answer, refuse, allocate_from, allocate, Call, Free, Allocate, Reserve, step, Voucher, voucher, from, past, covers, count}
+use Rattle.rules.specs.Rules.{Range, Book, down, up, put, remove, free_at, full, fit, serves, put_if, taken, joined, lower, upper, given, Answer, refuse, allocate_from, allocate, Call, Free, Allocate, Reserve, step, Voucher, voucher, from, past, covers, count}
 use Rattle.rules.specs.Sound.{In, Sound}
 use Rattle.rules_laws.proofs.Lists.{if, and_l, and_r, and_i, same_test, Found, found}
 use Rattle.rules_laws.proofs.Kept.{Takes, Gives, in-put→, in-remove→, free→, free←}

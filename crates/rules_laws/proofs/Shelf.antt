@@ -23,8 +23,10 @@ without-none i (q ∷ l) h = if (eqb i q.number) (λ k. k ≡ q ∷ l) (λ t. ab
 
 tally-without : (p : Range → Bool) (r : Range) (m : List Range) → Pairwise Other m → In r m → tally p m ≡ cond (p r) 1 0 + tally p (without r.number m)
 unfolding tally without
+tally-without p r [] h x'' = elim x'' [ ]
 tally-without p r (q ∷ m) h (inl e) = if (eqb r.number q.number) (λ k. cond (p q) 1 0 + tally p m ≡ cond (p r) 1 0 + tally p k)
-    (λ t. rw (e, without-none q.number m h.0))
+    (λ t. subst (λ (x : Range). cond (p q) 1 0 + tally p m ≡ cond (p x) 1 0 + tally p (without x.number m)) (sym e)
+    (ap (λ (k : List Range). cond (p q) 1 0 + tally p k) (sym (without-none q.number m h.0))))
     (λ t. absurd (T-no (eqb r.number q.number) t (subst (λ (x : Range). T (eqb x.number q.number)) (sym e) (eqb_refl q.number))))
 tally-without p r (q ∷ m) h (inr j) = if (eqb r.number q.number) (λ k. cond (p q) 1 0 + tally p m ≡ cond (p r) 1 0 + tally p k)
     (λ t. absurd (h.0 r j (sym (eqb→eq r.number q.number t))))
@@ -50,6 +52,7 @@ sized v r = eqb v (size r)
 
 tally-in : (p : Range → Bool) (r : Range) (l : List Range) → In r l → T (p r) → 0 < tally p l
 unfolding tally
+tally-in p r [] x'' t = elim x'' [ ]
 tally-in p r (q ∷ l) (inl e) t = rw (T_true (p q) (subst (λ (x : Range). T (p x)) e t)) (omega arith)
 tally-in p r (q ∷ l) (inr i) t = omega (arith, tally-in p r l i t)
 
@@ -165,6 +168,7 @@ of_list-number k (r ∷ l) q = if (eqb (num r) k) (λ m. In q m → num q ≡ k)
 
 pub in-of_list : (q : Range) (l : List Range) → In q l → In q (of_list (num q) l)
 unfolding of_list
+in-of_list q [] x' = elim x' [ ]
 in-of_list q (p ∷ l) (inl e) = if (eqb (num p) (num q)) (λ m. In q m) (λ t. inl e) (λ t. absurd (neq (num p) (num q) t (ap num (sym e))))
 in-of_list q (p ∷ l) (inr i) = if (eqb (num p) (num q)) (λ m. In q m) (λ t. inr (in-of_list q l i)) (λ t. in-of_list q l i)
 
@@ -225,6 +229,7 @@ no_longer i (q ∷ l) = if (eqb i q.number) (λ m. length m ≤ length (q ∷ l)
 
 strictly : (l : List Range) (q : Range) → In q l → length (without q.number l) < length l
 unfolding without
+strictly [] q i = elim i [ ]
 strictly (p ∷ l) q i = if (eqb q.number p.number) (λ m. length m < length (p ∷ l)) {x = without q.number l} {y = p ∷ without q.number l} (λ t. omega (arith, no_longer q.number l))
     (λ t. elim i [ inl e ↦ absurd (neq q.number p.number t (ap (λ (x : Range). x.number) e)) | inr j ↦ omega (arith, strictly l q j) ])
 

@@ -2,7 +2,7 @@
 use mathlib.Core.Path.{◌≡◌, refl, sym, ap, ◌∙◌, subst}
 use mathlib.Core.Logic.{inl, inr}
 use mathlib.Core.List.{List, [], ◌∷◌, ◌++◌}
-use Prim.Native.Nat.{ℕ, suc, ◌+◌, ◌-◌, ◌≤◌}
+use Prim.Native.Nat.{ℕ, suc, ◌+◌, ◌≤◌}
 use native.Mathlib.Omega.{arith}
 use lib.Dec.{T, leb, eqb, eqb→eq, eqb_refl}
 use Rattle.rules.specs.Rules.{Range, start_of, size, Book, empty, sum, total, before, without, put, remove}
@@ -17,8 +17,10 @@ sum-before key q (p ∷ c) = if (leb (key q) (key p)) (λ m. sum m ≡ size q + 
 
 pub sum-without : (r : Range) (c : List Range) → Pairwise Other c → In r c → sum c ≡ size r + sum (without r.number c)
 unfolding sum without
+sum-without r [] h x'' = elim x'' [ ]
 sum-without r (q ∷ c) h (inl e) = if (eqb r.number q.number) (λ k. size q + sum c ≡ size r + sum k)
-    (λ t. rw (e, without-none q.number c h.0))
+    (λ t. subst (λ (x : Range). size q + sum c ≡ size x + sum (without x.number c)) (sym e)
+    (ap (λ (k : List Range). size q + sum k) (sym (without-none q.number c h.0))))
     (λ t. absurd (T-no (eqb r.number q.number) t (subst (λ (x : Range). T (eqb x.number q.number)) (sym e) (eqb_refl q.number))))
 sum-without r (q ∷ c) h (inr j) = if (eqb r.number q.number) (λ k. size q + sum c ≡ size r + sum k)
     (λ t. absurd (h.0 r j (sym (eqb→eq r.number q.number t))))

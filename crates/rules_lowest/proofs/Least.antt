@@ -1,11 +1,11 @@
 -- The least of some numbers is one of them and not above any; and what noting a figure keeps. Assumes nothing.
 use mathlib.Core.Path.{◌≡◌, refl, ◌∙◌, ap}
 use mathlib.Core.Logic.{◌≢◌, ◌⊎◌, inl, inr}
-use mathlib.Core.Bool.{Bool, true, false, cond, ◌&&◌, ◌||◌}
+use mathlib.Core.Bool.{Bool, true, false, cond}
 use mathlib.Core.List.{List, [], ◌∷◌}
-use Prim.Native.Nat.{ℕ, ◌≤◌, ◌<◌}
+use Prim.Native.Nat.{ℕ, ◌≤◌}
 use native.Mathlib.Omega.{arith}
-use lib.Dec.{leb, ltb, eqb}
+use lib.Dec.{ltb, eqb}
 use borrow.Author.Tests.{le-leb, ltb-true, ltb-false, ne_eqb, eqb-false}
 use Rattle.rules.specs.Rules.{Book, total, Call, step}
 use Rattle.rules.specs.Sound.{Sound}
@@ -41,6 +41,7 @@ least_first m (x ∷ l) = let h = least_first (less x m) l in let g = (less-le x
 -- it is not above any of them,
 pub least-below : (m : ℕ) (l : List ℕ) (x : ℕ) → Among x l → least m l ≤ x
 unfolding least
+least-below m [] x x3 = elim x3 [ ]
 least-below m (y ∷ l) x (inl e) = let h = least_first (less y m) l in let g = (less-le y m).0 in omega arith
 least-below m (y ∷ l) x (inr i) = least-below (less y m) l x i
 

@@ -4,11 +4,11 @@ use mathlib.Core.Logic.{◌≢◌, ◌⊎◌, inl, inr}
 use mathlib.Core.Bool.{Bool, true, false, not, cond, ◌&&◌}
 use Prim.Native.Nat.{ℕ, zero, suc, ◌+◌, ◌-◌, min, ◌≤◌, ◌<◌}
 use native.Mathlib.Omega.{arith}
-use lib.Dec.{T, leb, ltb, eqb, leb→le, nleb→lt, ltb→lt, nltb→le}
+use lib.Dec.{T, leb, ltb, leb→le, nleb→lt, ltb→lt, nltb→le}
 use borrow.Author.Tests.{le-leb, lt-ltb, lt-leb, le-ltb, eq-eqb}
-use Rattle.rules.specs.Rules.{top, Book, total, free_at, count, Answer, Call, step, Voucher, voucher, frees, from, past, covers}
+use Rattle.rules.specs.Rules.{top, Book, total, free_at, count, Answer, Call, step, voucher, frees, from, past, covers}
 use Rattle.rules.specs.Sound.{Sound}
-use Rattle.rules_laws.proofs.Lists.{T-or-not, T_true, T_false}
+use Rattle.rules_laws.proofs.Lists.{T-or-not}
 use Rattle.rules_laws.proofs.Bytes.{sound-total}
 use Rattle.rules_laws.proofs.Steps.{step-sound, step-free, step-covers}
 use Rattle.rules_laws.proofs.Outcomes.{Outcome, refusal, took, gave, outcome}
