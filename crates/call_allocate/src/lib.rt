@@ -1,4 +1,6 @@
 // `allocate`, in place.
+#![tactic(auto)]
+
 ghost use Rattle.std.specs.Prelude.{◌+◌, ◌<◌, ◌≤◌};
 ghost use Rattle.rules.specs.Rules.{allocate};
 ghost use Rattle.pool_state.specs.Shown.{pool};

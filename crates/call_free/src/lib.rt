@@ -1,4 +1,6 @@
 // `free`, in place.
+#![tactic(auto)]
+
 ghost use Rattle.std.specs.Prelude.{◌+◌, ◌<◌, ◌≤◌};
 ghost use Rattle.rules.specs.Rules.{top, free};
 ghost use Rattle.pool_state.specs.Shown.{pool};

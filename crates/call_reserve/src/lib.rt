@@ -1,4 +1,6 @@
 // `reserve_memory`, in place.
+#![tactic(auto)]
+
 ghost use Rattle.std.specs.Prelude.{◌≡◌, ◌+◌, ◌<◌, ◌≤◌};
 ghost use Rattle.rules.specs.Rules.{top, reserve};
 ghost use Rattle.pool_state.specs.Shown.{pool};
@@ -16,7 +18,7 @@ use pool_take::define_used_memory;
 use rounding::align_address_and_size;
 
 // What came of a piece. It holds no address, so that it is handed on in a register, and no answer is copied.
-#[derive(Drop)]
+#[derive(Clone, Copy)]
 pub enum Served {
     Taken,
     NoRecord,

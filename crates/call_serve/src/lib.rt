@@ -1,4 +1,6 @@
 // Any of the three calls, in place.
+#![tactic(auto)]
+
 ghost use Rattle.rules.specs.Rules.{step};
 ghost use Rattle.pool_state.specs.Shown.{pool};
 ghost use Rattle.pool_state.specs.Lent.{HoldsSome};

@@ -1,4 +1,6 @@
 // A call as code has it: the request, the answer, what stands beside an answer, and the numbers that stand for one.
+#![tactic(auto)]
+
 ghost use Rattle.std.specs.Prelude.{◌≡◌, ◌<◌};
 ghost use Rattle.rules.specs.Rules.{top};
 ghost use Rattle.calls.specs.Calls.{number_of, address_of, signed_of};
@@ -6,14 +8,14 @@ ghost use Rattle.calls.specs.Calls.{number_of, address_of, signed_of};
 use pool_state::{Address, MemoryAllocator};
 
 // One of the three calls: start, size and order, as far as it has them.
-#[derive(Drop)]
+#[derive(Clone, Copy)]
 pub enum Request {
     Allocate(u64, u64),
     Reserve(Address, u64, u64),
     Free(Address, u64),
 }
 
-#[derive(Drop)]
+#[derive(Clone, Copy)]
 pub enum Answer {
     Accepted(Address),
     NoEntry,
@@ -23,14 +25,14 @@ pub enum Answer {
 }
 
 // An answer beside the state that the call leaves.
-#[derive(Drop)]
+#[derive(Clone, Copy)]
 pub struct Outcome {
     pub answer: Answer,
     pub state: MemoryAllocator,
 }
 
 // An answer beside a number; 0 where the answer is a refusal.
-#[derive(Drop)]
+#[derive(Clone, Copy)]
 pub struct Counted {
     pub answer: Answer,
     pub value: u64,

@@ -1,9 +1,10 @@
 // The chain and the size lists: each walked once along its links.
+#![tactic(auto)]
+
 ghost use Rattle.std.specs.Prelude.{◌≡◌, ℕ, ◌<◌, ◌≤◌, get_or};
 ghost use Rattle.linked_lists.specs.Links.{none};
 ghost use Rattle.rules.specs.Rules.{size_lists, top};
 ghost use Rattle.pool_state.specs.Shown.{pool};
-ghost use Rattle.pool_state.specs.Lent.{was};
 ghost use Rattle.check_records.specs.Records.{Proper};
 ghost use Rattle.check_links.specs.Walks.{follows, size_at, chain_step_lem, chain_ok_lem, list_walk, lists_ok_lem};
 ghost use Rattle.check_links.specs.Bounds.{most_of, Bounds};
@@ -17,7 +18,7 @@ const PAGE: u64 = 4096;
 // The number of bytes of record i.
 fn size_at(start: &[u64; POOL], end: &[u64; POOL], i: RecordIndex) -> u64
     requires { (i.0 < pool) × (get_or start.now i.0 0 ≤ get_or end.now i.0 0) × (get_or end.now i.0 0 < top) }
-    ensures { result ≡ size_at (was start) (was end) i.0 }
+    ensures { result ≡ size_at start.now end.now i.0 }
 {
     let n = i.0 as usize;
     end[n] - start[n] + 1
@@ -25,7 +26,7 @@ fn size_at(start: &[u64; POOL], end: &[u64; POOL], i: RecordIndex) -> u64
 
 // Record i is one of the pool, is in use, and its link back is `before`.
 fn follows(enabled: &[bool; POOL], prev: &[u16; POOL], before: RecordIndex, i: RecordIndex) -> bool
-    ensures { result ≡ follows pool (was enabled) (was prev) before.0 i.0 }
+    ensures { result ≡ follows pool enabled.now prev.now before.0 i.0 }
 {
     let n = i.0 as usize;
     if n >= POOL {
@@ -46,7 +47,7 @@ fn chain_step(
     low: Address,
     i: RecordIndex,
 ) -> bool
-    ensures { result ≡ chain_step_lem pool (was start) (was enabled) (was previous) before.0 low.0 i.0 }
+    ensures { result ≡ chain_step_lem pool start.now enabled.now previous.now before.0 low.0 i.0 }
 {
     if !follows(enabled, previous, before, i) {
         return false;
@@ -67,7 +68,7 @@ pub fn chain_ok(
     count: usize,
 ) -> bool
     requires { Proper pool start.now end.now enabled.now }
-    ensures { result ≡ chain_ok_lem pool total first.0 (was start) (was end) (was enabled) (was previous) (was next) count }
+    ensures { result ≡ chain_ok_lem pool total first.0 start.now end.now enabled.now previous.now next.now count }
 {
     let mut before = RecordIndex(NONE);
     let mut cur = first;
@@ -119,7 +120,7 @@ fn tally_list(
     head: RecordIndex,
 ) -> Tally
     requires { Proper pool start.now end.now enabled.now }
-    ensures { (k : ℕ) → Bounds k least most → result ≡ list_walk pool (was start) (was end) (was enabled) (was lprev) (was lnext) k count none 0 head.0 }
+    ensures { (k : ℕ) → Bounds k least most → result ≡ list_walk pool start.now end.now enabled.now lprev.now lnext.now k count none 0 head.0 }
 {
     let mut before = RecordIndex(NONE);
     let mut cur = head;
@@ -159,7 +160,7 @@ pub fn lists_ok(
     count: usize,
 ) -> bool
     requires { Proper pool start.now end.now enabled.now }
-    ensures { result ≡ lists_ok_lem pool (was heads) (was start) (was end) (was enabled) (was lprev) (was lnext) size_lists 0 count }
+    ensures { result ≡ lists_ok_lem pool heads.now start.now end.now enabled.now lprev.now lnext.now size_lists 0 count }
 {
     let mut k: usize = 0;
     let mut least: u64 = 1;

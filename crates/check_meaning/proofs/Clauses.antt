@@ -43,10 +43,10 @@ module _ (n : ℕ) (small : n ≤ none) (s : MemoryAllocator) where
             let a = meets-links small chain i b e in
             let k = key n s i in
             let z = meets-links small (lists k (key-lt n s i)) i b (e, refl) in
-            record { previous = a.0; next = a.1; list-prev = z.0; list-next = z.1 }
+            record { previous = a.0; next = a.1; list_prev = z.0; list_next = z.1 }
         go false e =
             let f = unused i b e in
-            record { previous = inl f.previous; next = inl f.next; list-prev = inl f.list-prev; list-next = inl f.list-next }
+            record { previous = inl f.previous; next = inl f.next; list_prev = inl f.list_prev; list_next = inl f.list_next }
 
     pub paragraph-of : Sized n s → Proper n s.start s.end s.enabled → s.free_size ≡ sum (map (at s.start s.end) chain.list) → Paragraph n s
     paragraph-of sized proper total = record {

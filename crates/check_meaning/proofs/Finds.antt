@@ -57,7 +57,7 @@ module _ (n : ℕ) (small : n ≤ none) (s : MemoryAllocator) where
   every-unused : Every → (i : ℕ) → i < n → on i ≡ false → Fresh s i
   every-unused h i b e =
       let f = ok-fresh _ _ _ _ _ _ (subst (λ (t : Bool). record_ok t (get_or s.start i 0) (get_or s.end i 0) (get_or s.previous i 0) (get_or s.next i 0) (get_or s.list_prev i 0) (get_or s.list_next i 0) ≡ true) e (all-at _ n h i b)) in
-      record { start = f.0; end = f.1; previous = f.2; next = f.3; list-prev = f.4; list-next = f.5 }
+      record { start = f.0; end = f.1; previous = f.2; next = f.3; list_prev = f.4; list_next = f.5 }
 
   module _ (good : Proper n s.start s.end s.enabled) where
     -- ---- the chain

@@ -101,8 +101,8 @@ module _ (n : ℕ) (small : n ≤ none) (b : Book) (s : MemoryAllocator) (h : Ho
         end = w.1;
         previous = t.prevs i l ∙ before-none none i xs f;
         next = t.nexts i l ∙ after_none i xs f;
-        list-prev = v.prevs i l ∙ before-none none i (ls (key n s i)) g;
-        list-next = v.nexts i l ∙ after_none i (ls (key n s i)) g;
+        list_prev = v.prevs i l ∙ before-none none i (ls (key n s i)) g;
+        list_next = v.nexts i l ∙ after_none i (ls (key n s i)) g;
       }
     where
       not_in : (t : Bool) → has i (ls (key n s i)) ≡ t → has i (ls (key n s i)) ≡ false
@@ -123,8 +123,8 @@ module _ (n : ℕ) (small : n ≤ none) (b : Book) (s : MemoryAllocator) (h : Ho
     enabled = h.shape.kept.marked.enabled-length;
     previous = h.shape.chained.threads.prev-length;
     next = h.shape.chained.threads.next-length;
-    list-prev = h.shape.shelved.threads.prev-length;
-    list-next = h.shape.shelved.threads.next-length;
+    list_prev = h.shape.shelved.threads.prev-length;
+    list_next = h.shape.shelved.threads.next-length;
   }
 
   pub held : Paragraph n s

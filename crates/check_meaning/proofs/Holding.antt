@@ -137,10 +137,10 @@ module _ (n : ℕ) (small : n ≤ none) (s : MemoryAllocator) (p : Paragraph n s
     good = λ r m. good r ((members r).1 m);
     stand = stands js;
     threads = same_lists n small (key n s) (row n s rows) s.list_prev s.list_next
-        (linked-threads n small (key n s) (row n s rows) s.list_prev s.list_next p.sized.list-prev p.sized.list-next
+        (linked-threads n small (key n s) (row n s rows) s.list_prev s.list_next p.sized.list_prev p.sized.list_next
         (λ k. meets-linked small (rows k))
         (row-keyed n s rows)
-        (λ i b h. let w = out i b (λ u. true≢false (sym (((rows (key n s i)).exactly i).1 (b, (u, refl))) ∙ h)) in (w.list-prev, w.list-next)))
+        (λ i b h. let w = out i b (λ u. true≢false (sym (((rows (key n s i)).exactly i).1 (b, (u, refl))) ∙ h)) in (w.list_prev, w.list_next)))
         (λ k. numbers (of_list k (map R js))) row_of;
     heads-length = p.sized.heads;
     firsts = λ k b.

@@ -35,7 +35,7 @@ module _ (n : ℕ) (small : n ≤ none) (s : MemoryAllocator) (p : Paragraph n s
       go : (t : Bool) → used s.enabled i ≡ t
           → record_ok t (get_or s.start i 0) (get_or s.end i 0) (get_or s.previous i 0) (get_or s.next i 0) (get_or s.list_prev i 0) (get_or s.list_next i 0) ≡ true
       go true e = let g = p.proper i b e in used-ok _ _ _ _ _ _ g.0 g.1
-      go false e = let f = p.unused i b e in fresh_ok _ _ _ _ _ _ f.start f.end f.previous f.next f.list-prev f.list-next
+      go false e = let f = p.unused i b e in fresh_ok _ _ _ _ _ _ f.start f.end f.previous f.next f.list_prev f.list_next
 
   chain-passes : chain_in n s c ≡ true
   unfolding chain_ok_lem

@@ -62,6 +62,7 @@ module _ (start end : List ℕ) where
   numbers-map (x ∷ l) = ap (λ (k : List ℕ). x ∷ k) (numbers-map l)
 
   pub in_map : (r : Range) (l : List ℕ) → In r (map R l) → (x : ℕ) × (has x l ≡ true) × (r ≡ R x)
+  in_map r [] x' = elim x' [ ]
   in_map r (x ∷ l) (inl e) = (x, has_first x l, e)
   in_map r (x ∷ l) (inr m) = let w = in_map r l m in (w.0, has-cons x w.0 l w.1, w.2)
 

@@ -13,8 +13,8 @@ pub record Sized (n : ℕ) (s : MemoryAllocator) : Type 0 where
   pub enabled : length s.enabled ≡ n
   pub previous : length s.previous ≡ n
   pub next : length s.next ≡ n
-  pub list-prev : length s.list_prev ≡ n
-  pub list-next : length s.list_next ≡ n
+  pub list_prev : length s.list_prev ≡ n
+  pub list_next : length s.list_next ≡ n
 
 -- none, or the number of a record
 abbrev pub Link : ℕ → ℕ → Type 0
@@ -65,14 +65,14 @@ pub record Fresh (s : MemoryAllocator) (i : ℕ) : Type 0 where
   pub end : get_or s.end i 0 ≡ 0
   pub previous : get_or s.previous i 0 ≡ none
   pub next : get_or s.next i 0 ≡ none
-  pub list-prev : get_or s.list_prev i 0 ≡ none
-  pub list-next : get_or s.list_next i 0 ≡ none
+  pub list_prev : get_or s.list_prev i 0 ≡ none
+  pub list_next : get_or s.list_next i 0 ≡ none
 
 pub record Links (n : ℕ) (s : MemoryAllocator) (i : ℕ) : Type 0 where
   pub previous : Link n (get_or s.previous i 0)
   pub next : Link n (get_or s.next i 0)
-  pub list-prev : Link n (get_or s.list_prev i 0)
-  pub list-next : Link n (get_or s.list_next i 0)
+  pub list_prev : Link n (get_or s.list_prev i 0)
+  pub list_next : Link n (get_or s.list_next i 0)
 
 pub record Paragraph (n : ℕ) (s : MemoryAllocator) : Type 0 where
   pub sized : Sized n s

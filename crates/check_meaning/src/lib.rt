@@ -1,1 +1,2 @@
 // What the check of a state means, clause by clause: specs/ and proofs/.
+#![tactic(auto)]

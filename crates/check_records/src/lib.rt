@@ -1,13 +1,14 @@
 // The records one by one: each in use holds a proper range, and the others are as in a new state.
+#![tactic(auto)]
+
 ghost use Rattle.std.specs.Prelude.{◌≡◌, false};
 ghost use Rattle.pool_state.specs.Shown.{pool};
-ghost use Rattle.pool_state.specs.Lent.{was};
 ghost use Rattle.check_records.specs.Records.{proper, unlinked, record_ok, records};
 
 use pool_state::{Address, NONE, POOL, RecordIndex, TOP};
 
 // A number of records, unless a record or a link is broken.
-#[derive(Drop)]
+#[derive(Clone, Copy)]
 pub enum Tally {
     Of(usize),
     Broken,
@@ -62,7 +63,7 @@ pub fn tally_records(
     lprev: &[u16; POOL],
     lnext: &[u16; POOL],
 ) -> Tally
-    ensures { result ≡ records pool (was start) (was end) (was enabled) (was previous) (was next) (was lprev) (was lnext) }
+    ensures { result ≡ records pool start.now end.now enabled.now previous.now next.now lprev.now lnext.now }
 {
     let mut count: usize = 0;
     for i in 0..POOL {

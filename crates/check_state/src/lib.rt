@@ -1,8 +1,9 @@
 // Whether a state is sound: one pass over the records, the chain and the size lists.
+#![tactic(auto)]
+
 ghost use Rattle.std.specs.Prelude.{◌≡◌};
 ghost use Rattle.pool_state.specs.Shown.{pool};
 ghost use Rattle.pool_state.specs.State.{arrays};
-ghost use Rattle.pool_state.specs.Lent.{was};
 ghost use Rattle.check_records.specs.Records.{records};
 ghost use Rattle.check_records.specs.declared.Tally.TheVariants.{Of};
 ghost use Rattle.check_state.specs.IsSound.{is_sound_lem};
@@ -26,7 +27,7 @@ pub fn links_ok(
     count: usize,
 ) -> bool
     requires { records pool start.now end.now enabled.now previous.now next.now lprev.now lnext.now ≡ Of count }
-    ensures { result ≡ is_sound_lem pool (arrays total first.0 (was heads) (was start) (was end) (was enabled) (was previous) (was next) (was lprev) (was lnext)) }
+    ensures { result ≡ is_sound_lem pool (arrays total first.0 heads.now start.now end.now enabled.now previous.now next.now lprev.now lnext.now) }
 {
     if !chain_ok(total, first, start, end, enabled, previous, next, count) {
         return false;
@@ -47,7 +48,7 @@ pub fn is_sound_in(
     lprev: &[u16; POOL],
     lnext: &[u16; POOL],
 ) -> bool
-    ensures { result ≡ is_sound_lem pool (arrays total first.0 (was heads) (was start) (was end) (was enabled) (was previous) (was next) (was lprev) (was lnext)) }
+    ensures { result ≡ is_sound_lem pool (arrays total first.0 heads.now start.now end.now enabled.now previous.now next.now lprev.now lnext.now) }
 {
     let tally = tally_records(start, end, enabled, previous, next, lprev, lnext);
     let Tally::Of(count) = tally else {

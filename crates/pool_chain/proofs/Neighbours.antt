@@ -19,6 +19,7 @@ last-range m p [] = ([], p, refl, refl)
 last-range m p (q ∷ l) = let w = last-range p.number q l in (p ∷ w.0, w.1, ap (λ (k : List Range). p ∷ k) w.2, w.3)
 
 pair-last : (R : Range → Range → Type 0) (l : List Range) (r : Range) (u : List Range) → Pairwise R ((l ++ (r ∷ [])) ++ u) → (p : Range) → In p l → R p r
+pair-last R [] r u h p x'' = elim x'' [ ]
 pair-last R (q ∷ l) r u h p (inl e) = subst (λ (x : Range). R x r) (sym e) (h.0 r (in_left r (l ++ (r ∷ [])) u (in_right r l (r ∷ []) (inl refl))))
 pair-last R (q ∷ l) r u h p (inr i) = pair-last R l r u h.1 p i
 

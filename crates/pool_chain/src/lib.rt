@@ -1,9 +1,10 @@
 // The chain: the free ranges by address.
+#![tactic(auto)]
+
 ghost use Rattle.std.specs.Prelude.{◌≡◌, ◌≢◌, true, ◌&&◌, eqb, leb, ltb, get_or, ℕ, ◌<◌, ◌≤◌, List};
 ghost use Rattle.linked_lists.specs.Links.{none, pick};
 ghost use Rattle.rules.specs.Rules.{top, Range, start_of, any, find, contains, meets};
 ghost use Rattle.pool_state.specs.Shown.{pool, Runs, Walked, Gapped};
-ghost use Rattle.pool_state.specs.Lent.{was};
 ghost use Rattle.pool_chain.specs.Chain.{Ordered, StartsBelow, Placed, Unchained, Enchained};
 ghost use Rattle.pool_links.specs.Hits.{hit_of};
 
@@ -43,7 +44,7 @@ pub fn enchain(
 // A record to begin a search at: of every eighth, up to the first that starts at 0 as unused ones do, the one that starts nearest below
 // the address. Whichever it is, the same place is found; only the steps to it differ.
 fn nearest_below(start: &[u64; POOL], address: Address) -> RecordIndex
-    ensures { StartsBelow pool (was start) address.0 result.0 }
+    ensures { StartsBelow pool start.now address.0 result.0 }
 {
     let mut nearest: u16 = NONE;
     let mut from: u64 = 0;
@@ -67,7 +68,7 @@ fn nearest_below(start: &[u64; POOL], address: Address) -> RecordIndex
 // The record after another in the chain; the first where there is no other.
 fn entry_after(next: &[u16; POOL], first: RecordIndex, i: RecordIndex) -> RecordIndex
     requires { i.0 ≢ none → i.0 < pool }
-    ensures { result.0 ≡ pick (eqb i.0 none) first.0 (get_or (was next) i.0 0) }
+    ensures { result.0 ≡ pick (eqb i.0 none) first.0 (get_or next.now i.0 0) }
 {
     if i.0 == NONE {
         return first;
@@ -84,7 +85,7 @@ fn search_on(
     address: Address,
 ) -> Gap
     requires { (c : List Range) × (end : List ℕ) × Runs pool c start.now end next.now × Walked start_of c address.0 low.0 high.0 }
-    ensures { (c : List Range) (end : List ℕ) → Runs pool c (was start) end (was next) → Walked start_of c address.0 low.0 high.0 → Gapped start_of c address.0 result.before.0 result.after.0 }
+    ensures { (c : List Range) (end : List ℕ) → Runs pool c start.now end next.now → Walked start_of c address.0 low.0 high.0 → Gapped start_of c address.0 result.before.0 result.after.0 }
 {
     let mut before = low;
     let mut cur = high;
@@ -114,7 +115,7 @@ pub fn search_entry_previous_address(
     address: Address,
 ) -> Gap
     requires { (c : List Range) × (end : List ℕ) × Ordered pool c start.now end next.now first.0 }
-    ensures { (c : List Range) (end : List ℕ) → Ordered pool c (was start) end (was next) first.0 → Gapped start_of c address.0 result.before.0 result.after.0 }
+    ensures { (c : List Range) (end : List ℕ) → Ordered pool c start.now end next.now first.0 → Gapped start_of c address.0 result.before.0 result.after.0 }
 {
     let low = nearest_below(start, address);
     let high = entry_after(next, first, low);
@@ -133,7 +134,7 @@ pub fn search_entry_containing_address(
 ) -> Hit
     requires ordered { (c : List Range) × Ordered pool c start.now end.now next.now first.0 }
     requires address_lt_past { (address.0 < past.0) × (past.0 ≤ top) }
-    ensures { (c : List Range) → Ordered pool c (was start) (was end) (was next) first.0 → result ≡ hit_of (find (contains address.0 past.0) c) }
+    ensures { (c : List Range) → Ordered pool c start.now end.now next.now first.0 → result ≡ hit_of (find (contains address.0 past.0) c) }
 {
     let gap = search_entry_previous_address(start, next, first, Address(address.0 + 1));
     let i = gap.before;
@@ -149,7 +150,7 @@ pub fn search_entry_containing_address(
 
 // Whether record i has a range whose last byte is at the address or past it.
 pub fn reaches(end: &[u64; POOL], i: RecordIndex, address: Address) -> bool
-    ensures { result ≡ (ltb i.0 pool && leb address.0 (get_or (was end) i.0 0)) }
+    ensures { result ≡ (ltb i.0 pool && leb address.0 (get_or end.now i.0 0)) }
 {
     let n = i.0 as usize;
     if POOL <= n {
@@ -160,7 +161,7 @@ pub fn reaches(end: &[u64; POOL], i: RecordIndex, address: Address) -> bool
 
 // Whether record i has a range that starts below the address.
 pub fn starts_below(start: &[u64; POOL], i: RecordIndex, address: Address) -> bool
-    ensures { result ≡ (ltb i.0 pool && ltb (get_or (was start) i.0 0) address.0) }
+    ensures { result ≡ (ltb i.0 pool && ltb (get_or start.now i.0 0) address.0) }
 {
     let n = i.0 as usize;
     if POOL <= n {
@@ -179,7 +180,7 @@ pub fn overlaps_neighbour(
     past: Address,
 ) -> bool
     requires { address.0 < past.0 }
-    ensures { (c : List Range) → Placed pool c (was start) (was end) before.0 after.0 address.0 → result ≡ any (meets address.0 past.0) c }
+    ensures { (c : List Range) → Placed pool c start.now end.now before.0 after.0 address.0 → result ≡ any (meets address.0 past.0) c }
 {
     if reaches(end, before, address) {
         return true;

@@ -1,6 +1,6 @@
 -- What a record that comes into use or goes out of it asks for, and how a step ends that may want one. Assumes nothing.
 use Rattle.std.specs.Prelude.{ℕ, Bool, true, false, cond, ◌≡◌, ltb}
-use Rattle.std.specs.Borrow.{Bor}
+use Rattle.std.specs.Borrow.{MutBor}
 use Rattle.linked_lists.specs.Links.{pick}
 use Rattle.rules.specs.Rules.{Range, start_of, Book, remove, put}
 use Rattle.rules.specs.Sound.{In, Good, Other, Ahead, Apart}
@@ -39,14 +39,14 @@ pub record Drops (n : ℕ) (b : Book) (s : MemoryAllocator) (i : ℕ) (r : Range
   pub number : i ≡ r.number
 
 -- the range of record i may go out of some book, and it has gone out of every such book
-abbrev pub DropsSome : ℕ → ℕ → OfNine Bor
+abbrev pub DropsSome : ℕ → ℕ → OfNine MutBor
 DropsSome n i = nine_fields (λ s. (b : Book) × (r : Range) × Drops n b s i r)
 
 abbrev pub Dropped : ℕ → ℕ → OfNine Lent
 Dropped n i = nine_turn (λ s s'. (b : Book) (r : Range) → Drops n b s i r → Shape n (remove r b) s')
 
 -- q may go into some book, between the records x and y of the chain, and it has gone into every such book
-abbrev pub InsertsSome : ℕ → ℕ → ℕ → Range → OfNine Bor
+abbrev pub InsertsSome : ℕ → ℕ → ℕ → Range → OfNine MutBor
 InsertsSome n x y q = nine_fields (λ s. (b : Book) × Inserts n b s x y q)
 
 abbrev pub Inserted : ℕ → ℕ → ℕ → Range → OfNine Lent

@@ -1,22 +1,23 @@
 // Records that come into use and go out of it, in place.
+#![tactic(auto)]
+
 ghost use Rattle.std.specs.Prelude.{◌≡◌, List};
 ghost use Rattle.rules.specs.Rules.{Range, range, lowest};
 ghost use Rattle.pool_state.specs.Shown.{pool, Marked};
-ghost use Rattle.pool_state.specs.Lent.{was};
 ghost use Rattle.pool_entries.specs.Entries.{slot_of, DropsSome, Dropped, InsertsSome, Inserted};
 
 use pool_chain::{enchain, unchain};
 use pool_shelf::{chain_entry_to_free_list, unchain_entry_from_free_list};
 use pool_state::{Address, LISTS, POOL, RecordIndex};
 
-#[derive(Drop)]
+#[derive(Clone, Copy)]
 pub enum Slot {
     At(RecordIndex),
     Full,
 }
 
 // How a step ends that may want a record.
-#[derive(Drop)]
+#[derive(Clone, Copy)]
 pub enum Moving {
     Done,
     NoRecord,
@@ -26,7 +27,7 @@ pub enum Moving {
 // In MiniVisor: create_memory_entry.
 pub fn create_memory_entry(enabled: &[bool; POOL]) -> Slot
     requires { (c : List Range) × Marked pool c enabled.now }
-    ensures { (c : List Range) → Marked pool c (was enabled) → result ≡ slot_of pool (lowest pool 0 c) }
+    ensures { (c : List Range) → Marked pool c enabled.now → result ≡ slot_of pool (lowest pool 0 c) }
 {
     let mut i: usize = 0;
     while i < POOL {

@@ -1,7 +1,8 @@
 // Giving a piece back to the free ranges, in place.
+#![tactic(auto)]
+
 ghost use Rattle.std.specs.Prelude.{◌≡◌, ◌&&◌, suc, eqb, ltb, get_or};
 ghost use Rattle.pool_state.specs.Shown.{pool};
-ghost use Rattle.pool_state.specs.Lent.{was};
 ghost use Rattle.pool_give.specs.Give.{OffersSome, Given};
 
 use pool_entries::{Moving, Slot, create_memory_entry, delete_entry, insert};
@@ -10,7 +11,7 @@ use pool_state::{Address, LISTS, POOL, RecordIndex};
 
 // Whether record i has a range that ends right before the address.
 pub fn ends_before(end: &[u64; POOL], i: RecordIndex, address: Address) -> bool
-    ensures { result ≡ (ltb i.0 pool && eqb (suc (get_or (was end) i.0 0)) address.0) }
+    ensures { result ≡ (ltb i.0 pool && eqb (suc (get_or end.now i.0 0)) address.0) }
 {
     let n = i.0 as usize;
     if POOL <= n {
@@ -24,7 +25,7 @@ pub fn ends_before(end: &[u64; POOL], i: RecordIndex, address: Address) -> bool
 
 // Whether record i has a range that starts at the address.
 pub fn starts_at(start: &[u64; POOL], i: RecordIndex, address: Address) -> bool
-    ensures { result ≡ (ltb i.0 pool && eqb (get_or (was start) i.0 0) address.0) }
+    ensures { result ≡ (ltb i.0 pool && eqb (get_or start.now i.0 0) address.0) }
 {
     let n = i.0 as usize;
     if POOL <= n {

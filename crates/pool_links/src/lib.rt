@@ -1,4 +1,6 @@
 // Doubly linked lists threaded through two arrays of links: the chain and the size lists both.
+#![tactic(auto)]
+
 ghost use Rattle.std.specs.Prelude.{◌≡◌, ◌<◌, get_or, eqb};
 ghost use Rattle.linked_lists.specs.Links.{pick};
 ghost use Rattle.linked_lists.specs.Threads.{Sets};
@@ -9,14 +11,14 @@ ghost use Rattle.pool_links.specs.Linking.{Unlinked, Linked};
 use pool_state::{NONE, POOL, RecordIndex};
 
 // A place in a list: the records on either side of it.
-#[derive(Drop)]
+#[derive(Clone, Copy)]
 pub struct Gap {
     pub before: RecordIndex,
     pub after: RecordIndex,
 }
 
 // The record of the range that a search was for.
-#[derive(Drop)]
+#[derive(Clone, Copy)]
 pub enum Hit {
     At(RecordIndex),
     Nothing,
@@ -37,7 +39,7 @@ pub fn point(links: &mut [u16; POOL], i: RecordIndex, to: RecordIndex)
 // In MiniVisor: get_prev_entry, get_next_entry.
 pub fn link_of(links: &[u16; POOL], i: RecordIndex) -> RecordIndex
     requires { i.0 < pool }
-    ensures { result.0 ≡ get_or (was links) i.0 0 }
+    ensures { result.0 ≡ get_or links.now i.0 0 }
 {
     let n = i.0 as usize;
     RecordIndex(links[n])

@@ -26,7 +26,7 @@ module _ (c : List Range) (starts lasts : List ℕ) where
   unfolding listed_of shown
   done k starts' lasts' all h g w =
       let e : short c (length starts) (length lasts) ≡ false = rw (le-ltb (length starts) (length c) (omega arith), le-ltb (length lasts) (length c) (omega arith)) in
-      record { answer = rw (e, all); starts-now = rw e w.starts-now; lasts_now = rw e w.lasts-now }
+      record { answer = rw (e, all); starts-now = rw e w.starts-now; lasts_now = rw e w.lasts_now }
 
 -- what the slices get are the two columns of the rules' listing
 module _ (b : Book) where

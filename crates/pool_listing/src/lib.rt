@@ -1,4 +1,6 @@
 // The listing of the free ranges, by address.
+#![tactic(auto)]
+
 ghost use Rattle.std.specs.Prelude.{◌≡◌, List, ℕ, length};
 ghost use Rattle.rules.specs.Rules.{Range};
 ghost use Rattle.pool_state.specs.Shown.{pool};
@@ -10,7 +12,7 @@ use pool_links::link_of;
 use pool_state::{NONE, POOL, RecordIndex};
 
 // The number of ranges listed, or that a slice is shorter than it.
-#[derive(Drop)]
+#[derive(Clone, Copy)]
 pub enum Listed {
     Count(usize),
     Short,
@@ -19,7 +21,7 @@ pub enum Listed {
 // The number of free ranges.
 pub fn count_entries(next: &[u16; POOL], first: RecordIndex) -> usize
     requires { (c : List Range) × (start : List ℕ) × (end : List ℕ) × Ordered pool c start end next.now first.0 }
-    ensures { (c : List Range) (start end : List ℕ) → Ordered pool c start end (was next) first.0 → result ≡ length c }
+    ensures { (c : List Range) (start end : List ℕ) → Ordered pool c start end next.now first.0 → result ≡ length c }
 {
     let mut count = 0;
     let mut cur = first;
@@ -40,7 +42,7 @@ fn write_entries(
     lasts: &mut [u64],
 )
     requires { (c : List Range) × Roomy pool c start.now end.now next.now first.0 starts.old lasts.old }
-    ensures { (c : List Range) → Roomy pool c (was start) (was end) (was next) first.0 (was starts) (was lasts) → Wrote c (was starts) (was lasts) (is starts) (is lasts) }
+    ensures { (c : List Range) → Roomy pool c start.now end.now next.now first.0 (was starts) (was lasts) → Wrote c (was starts) (was lasts) (is starts) (is lasts) }
 {
     let mut count = 0;
     let mut cur = first;
@@ -63,7 +65,7 @@ pub fn list_in(
     lasts: &mut [u64],
 ) -> Listed
     requires { (c : List Range) × Ordered pool c start.now end.now next.now first.0 }
-    ensures { (c : List Range) → Ordered pool c (was start) (was end) (was next) first.0 → Lists c (was starts) (was lasts) result (is starts) (is lasts) }
+    ensures { (c : List Range) → Ordered pool c start.now end.now next.now first.0 → Lists c (was starts) (was lasts) result (is starts) (is lasts) }
 {
     let count = count_entries(next, first);
     if starts.len() < count {

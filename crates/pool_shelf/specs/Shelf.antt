@@ -23,16 +23,16 @@ pub record Resizes (n : ℕ) (start end prev next heads : List ℕ) (q : Range) 
 -- ---- what they leave, of every shelf of which that held
 
 -- record i has gone out of the shelf
-abbrev pub Removed : ℕ → Lent (List ℕ) → Lent (List ℕ) → Lent (List ℕ) → Lent (List ℕ) → Lent (List ℕ) → ℕ → Type 0
+abbrev pub Removed : ℕ → List ℕ → List ℕ → Lent (List ℕ) → Lent (List ℕ) → Lent (List ℕ) → ℕ → Type 0
 Removed n start end prev next heads i =
-    (l : List Range) → Removes n (was start) (was end) (was prev) (was next) (was heads) i l
-    → Shelved n (without i l) (was start) (was end) (is prev) (is next) (is heads)
+    (l : List Range) → Removes n start end (was prev) (was next) (was heads) i l
+    → Shelved n (without i l) start end (is prev) (is next) (is heads)
 
 -- record i has come to its place, by its size
-abbrev pub Placed : ℕ → Lent (List ℕ) → Lent (List ℕ) → Lent (List ℕ) → Lent (List ℕ) → Lent (List ℕ) → ℕ → Type 0
+abbrev pub Placed : ℕ → List ℕ → List ℕ → Lent (List ℕ) → Lent (List ℕ) → Lent (List ℕ) → ℕ → Type 0
 Placed n start end prev next heads i =
-    (l : List Range) → Places n (was start) (was end) (was prev) (was next) (was heads) i l
-    → Shelved n (before size (at (was start) (was end) i) l) (was start) (was end) (is prev) (is next) (is heads)
+    (l : List Range) → Places n start end (was prev) (was next) (was heads) i l
+    → Shelved n (before size (at start end i) l) start end (is prev) (is next) (is heads)
 
 -- the range q stands in its record, and at its place
 abbrev pub Resized : ℕ → Lent (List ℕ) → Lent (List ℕ) → Lent (List ℕ) → Lent (List ℕ) → Lent (List ℕ) → Range → Type 0

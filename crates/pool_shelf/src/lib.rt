@@ -1,4 +1,6 @@
 // The shelf: the free ranges by size, in twelve lists.
+#![tactic(auto)]
+
 ghost use Rattle.std.specs.Prelude.{◌≡◌, ℕ, ◌<◌, ◌≤◌, set, List};
 ghost use Rattle.linked_lists.specs.Links.{head};
 ghost use Rattle.rules.specs.Rules.{Range, find, fit, serves, range, size};
@@ -14,7 +16,7 @@ use pool_state::{Address, LISTS, NONE, POOL, RecordIndex};
 use rounding::{align_address_and_available_size, size_to_page_order};
 
 // What the fit test of a range says: too few bytes remain; they fit, and to take them uses no record; they fit, and it uses one.
-#[derive(Drop)]
+#[derive(Clone, Copy)]
 pub enum Fit {
     Short,
     Plain,
@@ -25,7 +27,7 @@ pub enum Fit {
 // In MiniVisor: get_size.
 pub fn get_size(start: &[u64; POOL], end: &[u64; POOL], i: RecordIndex) -> u64
     requires { Good pool (at start.now end.now i.0) }
-    ensures { result ≡ size (at (was start) (was end) i.0) }
+    ensures { result ≡ size (at start.now end.now i.0) }
 {
     let n = i.0 as usize;
     end[n] - start[n] + 1
@@ -40,7 +42,7 @@ pub fn find_gap(
     s: u64,
 ) -> Gap
     requires { (l : List Range) × Runs pool l start.now end.now next.now × (first.0 ≡ head (numbers l)) }
-    ensures { (l : List Range) → Runs pool l (was start) (was end) (was next) → first.0 ≡ head (numbers l) → Gapped size l s result.before.0 result.after.0 }
+    ensures { (l : List Range) → Runs pool l start.now end.now next.now → first.0 ≡ head (numbers l) → Gapped size l s result.before.0 result.after.0 }
 {
     let mut before = RecordIndex(NONE);
     let mut cur = first;
@@ -72,7 +74,7 @@ pub fn unchain_entry_from_free_list(
     i: RecordIndex,
 )
     requires { (l : List Range) × Removes pool start.now end.now prev.old next.old heads.old i.0 l }
-    ensures { Removed pool start end prev next heads i.0 }
+    ensures { Removed pool start.now end.now prev next heads i.0 }
 {
     let k = size_to_page_order(get_size(start, end, i));
     let kn = k.0 as usize;
@@ -93,7 +95,7 @@ pub fn chain_entry_to_free_list(
     i: RecordIndex,
 )
     requires { (l : List Range) × Places pool start.now end.now prev.old next.old heads.old i.0 l }
-    ensures { Placed pool start end prev next heads i.0 }
+    ensures { Placed pool start.now end.now prev next heads i.0 }
 {
     let z = get_size(start, end, i);
     let k = size_to_page_order(z);
@@ -133,7 +135,7 @@ pub fn resize(
 pub fn fit_at(start: &[u64; POOL], end: &[u64; POOL], i: RecordIndex, size: u64, order: u64) -> Fit
     requires good { Good pool (at start.now end.now i.0) }
     requires size_nonzero { (0 < size) × (order ≤ 63) }
-    ensures { meant result ≡ fit size order (at (was start) (was end) i.0) }
+    ensures { meant result ≡ fit size order (at start.now end.now i.0) }
 {
     let whole = get_size(start, end, i);
     let n = i.0 as usize;
@@ -174,7 +176,7 @@ pub fn find_fit(
 ) -> Hit
     requires by_index { (l : List Range) × (prev : List ℕ) × Shelved pool l start.now end.now prev next.now heads.now }
     requires size_nonzero { (0 < size) × (order ≤ 63) }
-    ensures { (l : List Range) (prev : List ℕ) → Shelved pool l (was start) (was end) prev (was next) (was heads) → result ≡ hit_of (find (λ r. serves spare (fit size order r)) l) }
+    ensures { (l : List Range) (prev : List ℕ) → Shelved pool l start.now end.now prev next.now heads.now → result ≡ hit_of (find (λ r. serves spare (fit size order r)) l) }
 {
     let own = size_to_page_order(size);
     let mut hit = Hit::Nothing;

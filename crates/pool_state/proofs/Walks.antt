@@ -1,5 +1,5 @@
 -- Lists of ranges and a walk along one.
-use Prim.Native.Nat.{ℕ, ◌+◌, ◌-◌, ◌<◌, ◌≤◌}
+use Prim.Native.Nat.{ℕ, ◌<◌, ◌≤◌}
 use mathlib.Core.Bool.{true}
 use mathlib.Core.Logic.{◌≢◌, ◌⊎◌, inl, inr, ⊎_elim}
 use mathlib.Core.List.{List, [], ◌∷◌, ◌++◌}
@@ -26,6 +26,7 @@ in_right q [] r i = i
 in_right q (p ∷ l) r i = inr (in_right q l r i)
 
 pub in_left : (q : Range) (l r : List Range) → In q l → In q (l ++ r)
+in_left q [] r x' = elim x' [ ]
 in_left q (p ∷ l) r (inl e) = inl e
 in_left q (p ∷ l) r (inr i) = inr (in_left q l r i)
 
@@ -36,6 +37,7 @@ in_either q (p ∷ l) r (inr i) = elim (in_either q l r i) [ inl j ↦ inl (inr 
 
 -- a range of the list has its number there, and back
 pub in-has : (q : Range) (l : List Range) → In q l → has q.number (numbers l) ≡ true
+in-has q [] x' = elim x' [ ]
 in-has q (p ∷ l) (inl e) = rw (eq-eqb q.number p.number (ap (λ (x : Range). x.number) e))
 in-has q (p ∷ l) (inr i) = has-cons p.number q.number (numbers l) (in-has q l i)
 
@@ -51,16 +53,19 @@ fresh-numbers i [] h = tt
 fresh-numbers i (p ∷ l) h = (h p (inl refl), fresh-numbers i l (λ q m. h q (inr m)))
 
 pub in-fresh : (i : ℕ) (l : List Range) → Fresh i (numbers l) → (q : Range) → In q l → i ≢ q.number
+in-fresh i [] f q x'' = elim x'' [ ]
 in-fresh i (p ∷ l) f q (inl e) = subst (λ (x : Range). i ≢ x.number) (sym e) f.0
 in-fresh i (p ∷ l) f q (inr m) = in-fresh i l f.1 q m
 
 -- ---- a member parts a list
 
 pub part : (r : Range) (c : List Range) → In r c → (l : List Range) × (u : List Range) × (c ≡ l ++ r ∷ u)
+part r [] x' = elim x' [ ]
 part r (q ∷ c) (inl e) = ([], c, ap (λ (x : Range). x ∷ c) (sym e))
 part r (q ∷ c) (inr i) = let w = part r c i in (q ∷ w.0, w.1, ap (λ (k : List Range). q ∷ k) w.2)
 
 pub pair-low : (R : Range → Range → Type 0) (l : List Range) (r : Range) (u : List Range) → Pairwise R (l ++ r ∷ u) → (p : Range) → In p l → R p r
+pair-low R [] r u h p x'' = elim x'' [ ]
 pair-low R (q ∷ l) r u h p (inl e) = subst (λ (x : Range). R x r) (sym e) (h.0 r (in_right r l (r ∷ u) (inl refl)))
 pair-low R (q ∷ l) r u h p (inr i) = pair-low R l r u h.1 p i
 

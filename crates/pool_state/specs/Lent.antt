@@ -1,6 +1,6 @@
 -- What the contracts of in-place functions say of the parameters that are lent to them. n is the number of records. Assumes nothing.
 use Rattle.std.specs.Prelude.{ℕ, Bool, List}
-use Rattle.std.specs.Borrow.{Bor}
+use Rattle.std.specs.Borrow.{MutBor}
 use denote.Triple.Both.{Both}
 use Rattle.rules.specs.Rules.{Book}
 use Rattle.pool_state.specs.State.{arrays, Holds}
@@ -8,7 +8,7 @@ use Rattle.pool_state.specs.declared.MemoryAllocator.{MemoryAllocator}
 
 -- a lent parameter as an `ensures` sees it, at entry and at exit; what it held then, and what it holds now
 abbrev pub Lent : Type 0 → Type 0
-Lent X = Both (Bor X) (Bor X)
+Lent X = Both (MutBor X) (MutBor X)
 
 abbrev pub was : {X : Type 0} → Lent X → X
 was x = x.entry.now
@@ -24,7 +24,7 @@ OfNine F = F ℕ → F (List ℕ) → F (List ℕ) → F (List ℕ) → F (List 
 
 -- what a `requires` says of the ten: P of the state that they make up
 abbrev pub OfFields : Type 1
-OfFields = Bor ℕ → OfNine Bor
+OfFields = MutBor ℕ → OfNine MutBor
 
 abbrev pub fields : (MemoryAllocator → Type 0) → OfFields
 fields P total first heads start end enabled previous next lprev lnext =
@@ -40,7 +40,7 @@ turns R total first heads start end enabled previous next lprev lnext =
     (arrays (is total) (is first) (is heads) (is start) (is end) (is enabled) (is previous) (is next) (is lprev) (is lnext))
 
 -- the same of the nine: with some total, and with every one
-abbrev pub nine_fields : (MemoryAllocator → Type 0) → OfNine Bor
+abbrev pub nine_fields : (MemoryAllocator → Type 0) → OfNine MutBor
 nine_fields P first heads start end enabled previous next lprev lnext =
     (total : ℕ) × P (arrays total first.now heads.now start.now end.now enabled.now previous.now next.now lprev.now lnext.now)
 

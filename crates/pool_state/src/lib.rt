@@ -1,4 +1,6 @@
 // The allocator's state, and the kinds of number in it.
+#![tactic(auto)]
+
 ghost use Rattle.std.specs.Prelude.{◌≡◌};
 ghost use Rattle.rules.specs.Rules.{empty};
 ghost use Rattle.pool_state.specs.Shown.{pool};
@@ -17,17 +19,17 @@ pub const TOP: u64 = 9223372036854775808;
 
 pub const MAX_ORDER: u64 = 63;
 
-#[derive(Drop)]
+#[derive(Clone, Copy)]
 pub struct RecordIndex(pub u16);
 
-#[derive(Drop)]
+#[derive(Clone, Copy)]
 pub struct ListIndex(pub u8);
 
-#[derive(Drop)]
+#[derive(Clone, Copy)]
 pub struct Address(pub u64);
 
 // A record's number is its index. `previous` and `next` link the free ranges by address, `list_prev` and `list_next` those of one size list.
-#[derive(Drop)]
+#[derive(Clone, Copy)]
 pub struct MemoryAllocator {
     pub free_size: u64,
     pub first_entry: RecordIndex,

@@ -1,4 +1,6 @@
 // Taking a piece out of a free range, in place.
+#![tactic(auto)]
+
 ghost use Rattle.pool_state.specs.Shown.{pool};
 ghost use Rattle.pool_take.specs.Take.{AsksSome, Taken};
 
