@@ -1,4 +1,6 @@
 // The calls on an account by value: what they do to its ranges is what the core does, and the figure is noted where a call ends accepted.
+#![tactic(auto)]
+
 ghost use Rattle.std.specs.Prelude.{◌≡◌};
 ghost use Rattle.calls.specs.Calls.{call_of};
 ghost use Rattle.pool_state.specs.Shown.{pool};

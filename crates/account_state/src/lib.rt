@@ -1,4 +1,6 @@
 // The state of a box: its free ranges, and beside them the lowest figure. What works on the ranges below knows nothing of the figure.
+#![tactic(auto)]
+
 ghost use Rattle.std.specs.Prelude.{◌≡◌};
 ghost use Rattle.rules_lowest.specs.Lowest as rules;
 ghost use Rattle.pool_state.specs.Shown.{pool};
@@ -12,14 +14,14 @@ use pool_state::MemoryAllocator;
 pub const NEVER: u64 = 18446744073709551615;
 
 // The figure is the least total after any accepted call since the first accepted free.
-#[derive(Drop)]
+#[derive(Clone, Copy)]
 pub struct Account {
     pub ranges: MemoryAllocator,
     pub lowest: u64,
 }
 
 // An answer beside the account that the call leaves.
-#[derive(Drop)]
+#[derive(Clone, Copy)]
 pub struct Entered {
     pub answer: Answer,
     pub state: Account,

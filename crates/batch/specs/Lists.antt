@@ -52,8 +52,8 @@ pub record Served (n : ℕ) (s : Account) (l : List ℕ) (old : List ℤ) (r : A
   pub answers : now ≡ written (answers_of n s (asked l)) old
 
 -- the same of the eleven fields of an account that are lent
-abbrev pub ServedIn : ℕ → Lent (List ℕ) → Lent (List ℤ) → OfLentEleven
-ServedIn n calls answers = turns_eleven (λ s s'. Served n s (was calls) (was answers) s' (is answers))
+abbrev pub ServedIn : ℕ → List ℕ → Lent (List ℤ) → OfLentEleven
+ServedIn n calls answers = turns_eleven (λ s s'. Served n s calls (was answers) s' (is answers))
 
 -- the eleven fields that are lent are those of a sound account
 abbrev pub SoundIn : ℕ → OfEleven

@@ -92,7 +92,7 @@ pub fn serve_list_in(
 )
     requires sound_in { SoundIn pool lowest total first heads start end enabled previous next lprev lnext }
     requires answers_value { fitted calls.now (length answers.old) ≡ true }
-    ensures { ServedIn pool calls answers lowest total first heads start end enabled previous next lprev lnext }
+    ensures { ServedIn pool calls.now answers lowest total first heads start end enabled previous next lprev lnext }
 {
     let count = calls.len() / CALL_WORDS;
     let mut k: usize = 0;

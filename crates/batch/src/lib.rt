@@ -1,7 +1,8 @@
 // Many calls at a time: a list of calls in words, and a second slice for their answers.
+#![tactic(auto)]
+
 ghost use Rattle.std.specs.Prelude.{true, ◌≡◌, ◌<◌, length};
 ghost use Rattle.pool_state.specs.Shown.{pool};
-ghost use Rattle.pool_state.specs.Lent.{was};
 ghost use Rattle.account_state.specs.Account.{is_sound_lem};
 ghost use Rattle.batch.specs.InWords.{asked, asked_by_lem, asked_at_lem, words_of_lem};
 ghost use Rattle.batch.specs.Lists.{fitted, Served, Serves};
@@ -24,7 +25,7 @@ pub const ALLOCATE: u64 = 2;
 
 pub const RESERVE: u64 = 3;
 
-#[derive(Drop)]
+#[derive(Clone, Copy)]
 pub struct Words {
     pub kind: u64,
     pub x: u64,
@@ -32,7 +33,7 @@ pub struct Words {
     pub z: u64,
 }
 
-#[derive(Drop)]
+#[derive(Clone, Copy)]
 pub enum Asked {
     Is(Request),
     Unknown,
@@ -51,7 +52,7 @@ pub fn words_of(request: Request) -> [u64; CALL_WORDS]
 
 fn words_at(calls: &[u64], k: usize) -> Words
     requires { k < length (asked calls.now) }
-    ensures { asked_by_lem result ≡ asked_at_lem (was calls) k }
+    ensures { asked_by_lem result ≡ asked_at_lem calls.now k }
 {
     let at = k * CALL_WORDS;
     Words {
@@ -79,7 +80,7 @@ fn asked_by(words: Words) -> Asked
 
 // What call k of the list asks for.
 pub fn asked_at(calls: &[u64], k: usize) -> Asked
-    ensures { result ≡ asked_at_lem (was calls) k }
+    ensures { result ≡ asked_at_lem calls.now k }
 {
     if k < calls.len() / CALL_WORDS {
         let words = words_at(calls, k);
@@ -90,7 +91,7 @@ pub fn asked_at(calls: &[u64], k: usize) -> Asked
 
 // Whole calls, and a place for the answer of each.
 pub fn list_fits(calls: &[u64], places: usize) -> bool
-    ensures { result ≡ fitted (was calls) places }
+    ensures { result ≡ fitted calls.now places }
 {
     if calls.len() % CALL_WORDS != 0 {
         return false;

@@ -1,4 +1,6 @@
 // What a state shows of itself: its total, and the listing of its ranges.
+#![tactic(auto)]
+
 ghost use Rattle.std.specs.Prelude.{◌≡◌};
 ghost use Rattle.pool_state.specs.Shown.{pool};
 ghost use Rattle.core_accounts.specs.Accounts.{total_of, listed_answer, Lists};

@@ -1,4 +1,6 @@
 // The three calls on a state by value, as one.
+#![tactic(auto)]
+
 ghost use Rattle.std.specs.Prelude.{true, ◌≡◌};
 ghost use Rattle.pool_state.specs.Shown.{pool};
 ghost use Rattle.check_state.specs.IsSound.{is_sound_lem};

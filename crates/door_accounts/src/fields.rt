@@ -1,7 +1,6 @@
 // Ten lent fields: the state that they make up, by value. Whoever has it knows how many places the arrays have, which the logic does not know of an array
 // behind a reference.
 ghost use Rattle.std.specs.Prelude.{◌≡◌};
-ghost use Rattle.pool_state.specs.Lent.{was};
 ghost use Rattle.pool_state.specs.Shown.{pool};
 ghost use Rattle.pool_state.specs.State.{arrays};
 
@@ -19,7 +18,7 @@ pub fn state_of(
     lprev: &[u16; POOL],
     lnext: &[u16; POOL],
 ) -> MemoryAllocator
-    ensures { result ≡ arrays total first (was heads) (was start) (was end) (was enabled) (was previous) (was next) (was lprev) (was lnext) }
+    ensures { result ≡ arrays total first heads.now start.now end.now enabled.now previous.now next.now lprev.now lnext.now }
 {
     MemoryAllocator {
         free_size: total,

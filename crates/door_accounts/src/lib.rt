@@ -1,4 +1,6 @@
 // The total, the lowest figure and the listing as C has them: over a lent image; own.rt has those of a state of one's own. Nothing is written but what is asked for.
+#![tactic(auto)]
+
 ghost use Rattle.image_parts.specs.Layout.{current};
 ghost use Rattle.pool_state.specs.Lent.{was, is};
 ghost use Rattle.pool_state.specs.Shown.{pool};
@@ -12,12 +14,11 @@ use pool_state::{LISTS, NONE, POOL, RecordIndex};
 
 mod fields;
 mod listed;
-mod own;
+pub mod own;
 
 // The total of the account that an image holds goes to the place that is lent.
-#[unsafe(no_mangle)]
-pub extern "C" fn cinghjalofa_total(image: &[u8], figure: &mut u64) -> i64
-    ensures { Figures (shown_by current (was image) (total_of pool)) (was figure) result (is figure) }
+pub fn cinghjalofa_total(image: &[u8], figure: &mut u64) -> i64
+    ensures { Figures (shown_by current image.now (total_of pool)) (was figure) result (is figure) }
 {
     let mut lowest: u64 = 0;
     let mut total: u64 = 0;
@@ -52,9 +53,8 @@ pub extern "C" fn cinghjalofa_total(image: &[u8], figure: &mut u64) -> i64
 }
 
 // The lowest figure goes there: the least total after any accepted call since the first accepted free, 2^64-1 before it.
-#[unsafe(no_mangle)]
-pub extern "C" fn cinghjalofa_lowest(image: &[u8], figure: &mut u64) -> i64
-    ensures { Figures (shown_by current (was image) (lowest_of pool)) (was figure) result (is figure) }
+pub fn cinghjalofa_lowest(image: &[u8], figure: &mut u64) -> i64
+    ensures { Figures (shown_by current image.now (lowest_of pool)) (was figure) result (is figure) }
 {
     let mut lowest: u64 = 0;
     let mut total: u64 = 0;
@@ -89,9 +89,8 @@ pub extern "C" fn cinghjalofa_lowest(image: &[u8], figure: &mut u64) -> i64
 }
 
 // The first and last byte of each free range, by address, into the first places of two slices; the answer is their number.
-#[unsafe(no_mangle)]
-pub extern "C" fn cinghjalofa_listing(image: &[u8], starts: &mut [u64], lasts: &mut [u64]) -> i64
-    ensures { ListsBy current (was image) (was starts) (was lasts) result (is starts) (is lasts) }
+pub fn cinghjalofa_listing(image: &[u8], starts: &mut [u64], lasts: &mut [u64]) -> i64
+    ensures { ListsBy current image.now (was starts) (was lasts) result (is starts) (is lasts) }
 {
     let mut lowest: u64 = 0;
     let mut total: u64 = 0;

@@ -20,7 +20,7 @@ pub fn list_signed(
     lasts: &mut [u64],
 ) -> i64
     requires { (c : List Range) × Ordered pool c start.now end.now next.now first.0 }
-    ensures { (c : List Range) → Ordered pool c (was start) (was end) (was next) first.0 → ListsChain c (was starts) (was lasts) result (is starts) (is lasts) }
+    ensures { (c : List Range) → Ordered pool c start.now end.now next.now first.0 → ListsChain c (was starts) (was lasts) result (is starts) (is lasts) }
 {
     match list_in(start, end, next, first, starts, lasts) {
         Listed::Count(count) => count as i64,

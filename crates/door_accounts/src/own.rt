@@ -13,8 +13,7 @@ use door_fields::is_sound_account;
 use pool_state::{LISTS, POOL, RecordIndex};
 
 // The total goes to the place that is lent.
-#[unsafe(no_mangle)]
-pub extern "C" fn cinghjalofa_fields_total(
+pub fn cinghjalofa_fields_total(
     lowest: u64,
     total: u64,
     first: u16,
@@ -28,7 +27,7 @@ pub extern "C" fn cinghjalofa_fields_total(
     lnext: &[u16; POOL],
     figure: &mut u64,
 ) -> i64
-    ensures { Figures (total_of pool (account (arrays total first (was heads) (was start) (was end) (was enabled) (was previous) (was next) (was lprev) (was lnext)) lowest)) (was figure) result (is figure) }
+    ensures { Figures (total_of pool (account (arrays total first heads.now start.now end.now enabled.now previous.now next.now lprev.now lnext.now) lowest)) (was figure) result (is figure) }
 {
     // Never used, and so left out by the compiler: see fields.rt. So below.
     let _places = state_of(
@@ -45,8 +44,7 @@ pub extern "C" fn cinghjalofa_fields_total(
 }
 
 // The lowest figure goes there.
-#[unsafe(no_mangle)]
-pub extern "C" fn cinghjalofa_fields_lowest(
+pub fn cinghjalofa_fields_lowest(
     lowest: u64,
     total: u64,
     first: u16,
@@ -60,7 +58,7 @@ pub extern "C" fn cinghjalofa_fields_lowest(
     lnext: &[u16; POOL],
     figure: &mut u64,
 ) -> i64
-    ensures { Figures (lowest_of pool (account (arrays total first (was heads) (was start) (was end) (was enabled) (was previous) (was next) (was lprev) (was lnext)) lowest)) (was figure) result (is figure) }
+    ensures { Figures (lowest_of pool (account (arrays total first heads.now start.now end.now enabled.now previous.now next.now lprev.now lnext.now) lowest)) (was figure) result (is figure) }
 {
     let passed = is_sound_account(
         lowest, total, first, heads, start, end, enabled, previous, next, lprev, lnext,
@@ -73,8 +71,7 @@ pub extern "C" fn cinghjalofa_fields_lowest(
 }
 
 // The first and last byte of each free range, as cinghjalofa_listing has them.
-#[unsafe(no_mangle)]
-pub extern "C" fn cinghjalofa_fields_listing(
+pub fn cinghjalofa_fields_listing(
     lowest: u64,
     total: u64,
     first: u16,
@@ -89,7 +86,7 @@ pub extern "C" fn cinghjalofa_fields_listing(
     starts: &mut [u64],
     lasts: &mut [u64],
 ) -> i64
-    ensures { Lists pool (account (arrays total first (was heads) (was start) (was end) (was enabled) (was previous) (was next) (was lprev) (was lnext)) lowest) (was starts) (was lasts) result (is starts) (is lasts) }
+    ensures { Lists pool (account (arrays total first heads.now start.now end.now enabled.now previous.now next.now lprev.now lnext.now) lowest) (was starts) (was lasts) result (is starts) (is lasts) }
 {
     let _places = state_of(
         total, first, heads, start, end, enabled, previous, next, lprev, lnext,

@@ -19,8 +19,8 @@ module _ (n : ℕ) (s : MemoryAllocator) where
         eq-eqb _ _ z.enabled,
         eq-eqb _ _ z.previous,
         eq-eqb _ _ z.next,
-        eq-eqb _ _ z.list-prev,
-        eq-eqb _ _ z.list-next,
+        eq-eqb _ _ z.list_prev,
+        eq-eqb _ _ z.list_next,
       )
 
   pub passes-sized : is_sized_lem n s ≡ true → Sized n s
@@ -40,6 +40,6 @@ module _ (n : ℕ) (s : MemoryAllocator) where
         enabled = eqb-true _ _ d.0;
         previous = eqb-true _ _ e.0;
         next = eqb-true _ _ f.0;
-        list-prev = eqb-true _ _ g.0;
-        list-next = eqb-true _ _ g.1;
+        list_prev = eqb-true _ _ g.0;
+        list_next = eqb-true _ _ g.1;
       }

@@ -1,6 +1,5 @@
 // The check of eleven lent fields.
 ghost use Rattle.std.specs.Prelude.{◌≡◌};
-ghost use Rattle.pool_state.specs.Lent.{was};
 ghost use Rattle.pool_state.specs.Shown.{pool};
 ghost use Rattle.pool_state.specs.State.{arrays};
 ghost use Rattle.account_state.specs.Account.{account, is_sound_lem};
@@ -22,7 +21,7 @@ fn is_sized(
     lprev: &[u16],
     lnext: &[u16],
 ) -> bool
-    ensures { result ≡ is_sized_lem pool (arrays 0 0 (was heads) (was start) (was end) (was enabled) (was previous) (was next) (was lprev) (was lnext)) }
+    ensures { result ≡ is_sized_lem pool (arrays 0 0 heads.now start.now end.now enabled.now previous.now next.now lprev.now lnext.now) }
 {
     if heads.len() != LISTS {
         return false;
@@ -62,7 +61,7 @@ pub fn is_sound_account(
     lprev: &[u16; POOL],
     lnext: &[u16; POOL],
 ) -> bool
-    ensures { result ≡ is_sound_lem pool (account (arrays total first (was heads) (was start) (was end) (was enabled) (was previous) (was next) (was lprev) (was lnext)) lowest) }
+    ensures { result ≡ is_sound_lem pool (account (arrays total first heads.now start.now end.now enabled.now previous.now next.now lprev.now lnext.now) lowest) }
 {
     if is_sound_in(
         total,
@@ -94,7 +93,7 @@ pub fn is_sound_lent(
     lprev: &[u16; POOL],
     lnext: &[u16; POOL],
 ) -> bool
-    ensures { result ≡ sound_here pool (account (arrays total first (was heads) (was start) (was end) (was enabled) (was previous) (was next) (was lprev) (was lnext)) lowest) }
+    ensures { result ≡ sound_here pool (account (arrays total first heads.now start.now end.now enabled.now previous.now next.now lprev.now lnext.now) lowest) }
 {
     if is_sized(heads, start, end, enabled, previous, next, lprev, lnext) {
         return is_sound_account(

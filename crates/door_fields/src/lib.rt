@@ -1,9 +1,10 @@
 // A state of one's own, as eleven fields in the caller's memory that are lent one by one: the lowest figure, and the ten of the ranges. A new one, its
 // check, and the kinds of call on it.
+#![tactic(auto)]
+
 ghost use Rattle.std.specs.Prelude.{◌≡◌};
 ghost use Rattle.account_state.specs.Account.{account, opened, is_sound_lem};
 ghost use Rattle.account_state.specs.Lent.{turns_eleven};
-ghost use Rattle.pool_state.specs.Lent.{was};
 ghost use Rattle.pool_state.specs.Shown.{pool};
 ghost use Rattle.pool_state.specs.State.{arrays};
 
@@ -46,8 +47,7 @@ pub fn clear(
 }
 
 // The empty allocator, over whatever is there.
-#[unsafe(no_mangle)]
-pub extern "C" fn cinghjalofa_fields_new(
+pub fn cinghjalofa_fields_new(
     lowest: &mut u64,
     total: &mut u64,
     first: &mut u16,
@@ -68,8 +68,7 @@ pub extern "C" fn cinghjalofa_fields_new(
 }
 
 // Whether the fields are a sound state.
-#[unsafe(no_mangle)]
-pub extern "C" fn cinghjalofa_fields_are_sound(
+pub fn cinghjalofa_fields_are_sound(
     lowest: u64,
     total: u64,
     first: u16,
@@ -82,7 +81,7 @@ pub extern "C" fn cinghjalofa_fields_are_sound(
     lprev: &[u16; POOL],
     lnext: &[u16; POOL],
 ) -> bool
-    ensures { result ≡ is_sound_lem pool (account (arrays total first (was heads) (was start) (was end) (was enabled) (was previous) (was next) (was lprev) (was lnext)) lowest) }
+    ensures { result ≡ is_sound_lem pool (account (arrays total first heads.now start.now end.now enabled.now previous.now next.now lprev.now lnext.now) lowest) }
 {
     is_sound_account(
         lowest, total, first, heads, start, end, enabled, previous, next, lprev, lnext,

@@ -1,5 +1,7 @@
 // A state of one's own, eleven lent fields: a list of calls on it, an image into it, and its image. The fields are lent on as they are: no array
 // is copied.
+#![tactic(auto)]
+
 ghost use Rattle.std.specs.Prelude.{◌≡◌};
 ghost use Rattle.image_parts.specs.Layout.{current};
 ghost use Rattle.image_reading.specs.Reading.{readable};
@@ -21,8 +23,7 @@ use pool_state::{LISTS, NONE, POOL, RecordIndex};
 const INVALID_REQUEST: i64 = -4;
 
 // A list of calls, four words each, whose signed answers go into the places of `answers`; 0 where the list was served.
-#[unsafe(no_mangle)]
-pub extern "C" fn cinghjalofa_fields_batch(
+pub fn cinghjalofa_fields_batch(
     lowest: &mut u64,
     total: &mut u64,
     first: &mut u16,
@@ -37,7 +38,7 @@ pub extern "C" fn cinghjalofa_fields_batch(
     calls: &[u64],
     answers: &mut [i64],
 ) -> i64
-    ensures { turns_eleven (λ a a'. Lists pool a (was calls) (was answers) result a' (is answers)) lowest total first heads start end enabled previous next lprev lnext }
+    ensures { turns_eleven (λ a a'. Lists pool a calls.now (was answers) result a' (is answers)) lowest total first heads start end enabled previous next lprev lnext }
 {
     if is_sound_lent(
         *lowest, *total, *first, heads, start, end, enabled, previous, next, lprev, lnext,
@@ -56,7 +57,7 @@ pub extern "C" fn cinghjalofa_fields_batch(
 
 // Whether the bytes are the image of a sound account: read into eleven fields that are given up again.
 fn is_image(image: &[u8]) -> bool
-    ensures { result ≡ readable current (was image) }
+    ensures { result ≡ readable current image.now }
 {
     let mut lowest: u64 = 0;
     let mut total: u64 = 0;
@@ -86,8 +87,7 @@ fn is_image(image: &[u8]) -> bool
 }
 
 // The account of an image, over whatever is there; -2, and nothing is written, where the bytes are no image of a sound one.
-#[unsafe(no_mangle)]
-pub extern "C" fn cinghjalofa_fields_import(
+pub fn cinghjalofa_fields_import(
     lowest: &mut u64,
     total: &mut u64,
     first: &mut u16,
@@ -101,7 +101,7 @@ pub extern "C" fn cinghjalofa_fields_import(
     lnext: &mut [u16; POOL],
     image: &[u8],
 ) -> i64
-    ensures { turns_eleven (λ a a'. Imports current (was image) result a a') lowest total first heads start end enabled previous next lprev lnext }
+    ensures { turns_eleven (λ a a'. Imports current image.now result a a') lowest total first heads start end enabled previous next lprev lnext }
 {
     let readable = is_image(image);
     if readable {
@@ -117,8 +117,7 @@ pub extern "C" fn cinghjalofa_fields_import(
 }
 
 // The image of the fields, over a slice of its length; -2, and no byte is written, where they are no sound account or the length is another.
-#[unsafe(no_mangle)]
-pub extern "C" fn cinghjalofa_fields_export(
+pub fn cinghjalofa_fields_export(
     lowest: u64,
     total: u64,
     first: u16,
@@ -132,7 +131,7 @@ pub extern "C" fn cinghjalofa_fields_export(
     lnext: &[u16; POOL],
     image: &mut [u8],
 ) -> i64
-    ensures { Exports current (account (arrays total first (was heads) (was start) (was end) (was enabled) (was previous) (was next) (was lprev) (was lnext)) lowest) (was image) result (is image) }
+    ensures { Exports current (account (arrays total first heads.now start.now end.now enabled.now previous.now next.now lprev.now lnext.now) lowest) (was image) result (is image) }
 {
     if image.len() != IMAGE {
         return INVALID_ENTRY;

@@ -1,5 +1,7 @@
 // The calls on a state of one's own: eleven fields in the caller's memory, lent one by one. A checked call asks first whether they are a sound
 // account. An unchecked one requires it: it holds of fields that `new`, a checked import and the calls alone have written.
+#![tactic(auto)]
+
 ghost use Rattle.batch.specs.InWords.{rule_of};
 ghost use Rattle.batch.specs.Lists.{SoundIn};
 ghost use Rattle.pool_state.specs.Shown.{pool};
@@ -13,8 +15,7 @@ use door_fields::{in_bytes, is_sound_lent};
 use pool_state::{LISTS, POOL};
 
 // A call in words, of fields that are a sound account: nothing is checked. The figure is noted where the call has ended.
-#[unsafe(no_mangle)]
-pub extern "C" fn cinghjalofa_fields_call_unchecked(
+pub fn cinghjalofa_fields_call_unchecked(
     lowest: &mut u64,
     total: &mut u64,
     first: &mut u16,
@@ -43,8 +44,7 @@ pub extern "C" fn cinghjalofa_fields_call_unchecked(
 }
 
 // A call in words, of any fields: where they are no sound account, InvalidEntry, and nothing is written.
-#[unsafe(no_mangle)]
-pub extern "C" fn cinghjalofa_fields_call(
+pub fn cinghjalofa_fields_call(
     lowest: &mut u64,
     total: &mut u64,
     first: &mut u16,

@@ -1,4 +1,6 @@
 // The allocator lent in place: each door calls the core, which takes it by value.
+#![tactic(auto)]
+
 ghost use Rattle.memory_allocator.specs.Names.{pool};
 ghost use Rattle.memory_allocator.specs.Promises.{allocate_of, reserve_of, free_of};
 ghost use Rattle.doors.specs.Lent.{Does};

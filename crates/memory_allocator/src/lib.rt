@@ -1,5 +1,7 @@
 // The allocator: its state goes in by value and comes back by value. A client takes all from here: the types, the calls, the check of a
 // state, its total and its listing.
+#![tactic(auto)]
+
 ghost use Rattle.std.specs.Prelude.{◌≡◌};
 ghost use Rattle.pool_state.specs.Shown.{pool};
 ghost use Rattle.memory_allocator.specs.Promises.{allocate_of, reserve_of, free_of};

@@ -1,4 +1,6 @@
 // Pages of 4096 bytes for the table builder: each call is one call of the allocator.
+#![tactic(auto)]
+
 ghost use Rattle.std.specs.Prelude.{◌≡◌};
 ghost use Rattle.memory_allocator.specs.Names.{pool};
 ghost use Rattle.pages.specs.Pages.{bytes_of_lem, raised, freed_bytes_lem, allocate_pages_of, free_pages_of};

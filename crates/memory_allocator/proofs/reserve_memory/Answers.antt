@@ -1,0 +1,7 @@
+use Rattle.rules.specs.Rules.{step}
+use Rattle.memory_allocator.proofs.reserve_memory.Goals as goal
+
+pub returns : goal.returns
+unfolding step
+returns c =
+    c.serve.ensures
