@@ -34,8 +34,7 @@ fn no_entries() -> Register
 }
 
 // The image of the empty allocator with no range held, over whatever is there.
-#[unsafe(no_mangle)]
-pub extern "C" fn cinghjalofa_holders_new(image: &mut [u8]) -> i64
+pub fn cinghjalofa_holders_new(image: &mut [u8]) -> i64
     ensures { returned result (is image) ≡ new_over current (was image) }
 {
     if image.len() != HOLDERS_IMAGE {
@@ -65,21 +64,14 @@ pub extern "C" fn cinghjalofa_holders_new(image: &mut [u8]) -> i64
 }
 
 // The board offers `size` bytes from `start`: they become free.
-#[unsafe(no_mangle)]
-pub extern "C" fn cinghjalofa_holders_offer(image: &mut [u8], start: u64, size: u64) -> i64
+pub fn cinghjalofa_holders_offer(image: &mut [u8], start: u64, size: u64) -> i64
     ensures { returned result (is image) ≡ call_over_lem current (Offer start size) (was image) }
 {
     serve_over(image, HolderRequest::Offer(Address(start), size))
 }
 
 // The holder takes `size` bytes from a multiple of 2^order; the answer is the address of the first.
-#[unsafe(no_mangle)]
-pub extern "C" fn cinghjalofa_holders_allocate(
-    image: &mut [u8],
-    holder: u64,
-    size: u64,
-    order: u64,
-) -> i64
+pub fn cinghjalofa_holders_allocate(image: &mut [u8], holder: u64, size: u64, order: u64) -> i64
     ensures { returned result (is image) ≡ call_over_lem current (By holder (Allocate size order)) (was image) }
 {
     serve_over(
@@ -89,8 +81,7 @@ pub extern "C" fn cinghjalofa_holders_allocate(
 }
 
 // The holder takes the bytes from `start`, widened to multiples of 2^order.
-#[unsafe(no_mangle)]
-pub extern "C" fn cinghjalofa_holders_reserve_memory(
+pub fn cinghjalofa_holders_reserve_memory(
     image: &mut [u8],
     holder: u64,
     start: u64,
@@ -109,13 +100,7 @@ pub extern "C" fn cinghjalofa_holders_reserve_memory(
 }
 
 // The holder hands back `size` bytes from `start`, exactly as they were handed out.
-#[unsafe(no_mangle)]
-pub extern "C" fn cinghjalofa_holders_free(
-    image: &mut [u8],
-    holder: u64,
-    start: u64,
-    size: u64,
-) -> i64
+pub fn cinghjalofa_holders_free(image: &mut [u8], holder: u64, start: u64, size: u64) -> i64
     ensures { returned result (is image) ≡ call_over_lem current (By holder (Free start size)) (was image) }
 {
     serve_over(

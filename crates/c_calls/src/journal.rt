@@ -10,16 +10,14 @@ ghost use Rattle.journal_calls.specs.Calls.{left, put_over, write_over, read_ove
 use journal_calls::{audit_journal, begin_journal, read_entry, write_entry};
 
 // The version byte; the answer is the place of the first block.
-#[unsafe(no_mangle)]
-pub extern "C" fn cinghjalofa_journal_begin(journal: &mut [u8]) -> i64
+pub fn cinghjalofa_journal_begin(journal: &mut [u8]) -> i64
     ensures { left result (is journal) ≡ put_over (version ∷ []) (was journal) 0 }
 {
     begin_journal(journal)
 }
 
 // The block of a call and its answer, from the place `at` on. The answer's 64 bits are taken as they are.
-#[unsafe(no_mangle)]
-pub extern "C" fn cinghjalofa_journal_write(
+pub fn cinghjalofa_journal_write(
     journal: &mut [u8],
     at: u64,
     kind: u64,
@@ -34,17 +32,15 @@ pub extern "C" fn cinghjalofa_journal_write(
 }
 
 // The block at the place `at`, read into five words.
-#[unsafe(no_mangle)]
-pub extern "C" fn cinghjalofa_journal_read(journal: &[u8], at: u64, entry: &mut [u64]) -> i64
-    ensures { left result (is entry) ≡ read_over (was journal) at (was entry) }
+pub fn cinghjalofa_journal_read(journal: &[u8], at: u64, entry: &mut [u64]) -> i64
+    ensures { left result (is entry) ≡ read_over journal.now at (was entry) }
 {
     read_entry(journal, at as usize, entry)
 }
 
 // The journal is replayed from empty; the figure becomes the final total, or the index of the first trouble.
-#[unsafe(no_mangle)]
-pub extern "C" fn cinghjalofa_audit(journal: &[u8], figure: &mut u64) -> i64
-    ensures { Reports (audit_of pool (was journal)) (was figure) result (is figure) }
+pub fn cinghjalofa_audit(journal: &[u8], figure: &mut u64) -> i64
+    ensures { Reports (audit_of pool journal.now) (was figure) result (is figure) }
 {
     audit_journal(journal, figure)
 }

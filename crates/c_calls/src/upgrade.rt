@@ -11,8 +11,7 @@ use image_upgrade::upgrade_image;
 const UPGRADED: i64 = 0;
 
 // The image of any version, written as the current one; the answer is 0.
-#[unsafe(no_mangle)]
-pub extern "C" fn cinghjalofa_upgrade(old: &[u8], image: &mut [u8]) -> i64
+pub fn cinghjalofa_upgrade(old: &[u8], image: &mut [u8]) -> i64
     ensures { returned result image.new ≡ upgrade_over old.now image.old }
 {
     match upgrade_image(old, image) {

@@ -1,4 +1,6 @@
 // A request served on the state that an image holds.
+#![tactic(auto)]
+
 ghost use Rattle.std.specs.Prelude.{◌≡◌};
 ghost use Rattle.image_parts.specs.Layout.{current};
 ghost use Rattle.calls.specs.Calls.{call_of};

@@ -187,8 +187,8 @@ module _ (f : Layout) (lawful : Lawful f) where
         let e₆ = sym (by-tab false n s.enabled _ fit.sized.enabled (λ i b. sym (ap (λ (x : ℕ). eqb x 1) (flag-back i b) ∙ flag-round (get_or s.enabled i false)))) in
         let e₇ = links-back 0 (omega arith) s.previous fit.sized.previous (λ i bi. (fit.links i bi).previous) (λ i. refl) in
         let e₈ = links-back 1 (omega arith) s.next fit.sized.next (λ i bi. (fit.links i bi).next) (λ i. refl) in
-        let e₉ = links-back 2 (omega arith) s.list_prev fit.sized.list-prev (λ i bi. (fit.links i bi).list-prev) (λ i. refl) in
-        let e₀ = links-back 3 (omega arith) s.list_next fit.sized.list-next (λ i bi. (fit.links i bi).list-next) (λ i. refl) in
+        let e₉ = links-back 2 (omega arith) s.list_prev fit.sized.list_prev (λ i bi. (fit.links i bi).list_prev) (λ i. refl) in
+        let e₀ = links-back 3 (omega arith) s.list_next fit.sized.list_next (λ i bi. (fit.links i bi).list_next) (λ i. refl) in
         (λ z. arrays (total-back z) (first_back z) (e₃ z) (e₄ z) (e₅ z) (e₆ z) (e₇ z) (e₈ z) (e₉ z) (e₀ z))
 
     -- a figure that has bytes of its own

@@ -35,8 +35,8 @@ same-entry s s' i a b e e' =
     let off = e ∙ sym e' in
     let previous = a.previous ∙ sym b.previous in
     let next = a.next ∙ sym b.next in
-    let lprev = a.list-prev ∙ sym b.list-prev in
-    let lnext = a.list-next ∙ sym b.list-next in
+    let lprev = a.list_prev ∙ sym b.list_prev in
+    let lnext = a.list_next ∙ sym b.list_next in
     (λ z. record {
       start = record { 0 = starts z };
       end = record { 0 = ends z };

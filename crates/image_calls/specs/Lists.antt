@@ -1,6 +1,6 @@
 -- What a list of calls over an image returns, every byte of the image that it leaves, and every place of the answers. Assumes nothing.
 use Rattle.std.specs.Prelude.{ℕ, Bool, true, cond, List, ◌≡◌, eqb, ℤ, length}
-use Rattle.std.specs.Borrow.{Bor}
+use Rattle.std.specs.Borrow.{MutBor}
 use Rattle.account_state.specs.Lent.{OfEleven, eleven}
 use Rattle.account_state.specs.declared.Account.{Account}
 use Rattle.account_state.specs.declared.Entered.{Entered}
@@ -47,5 +47,5 @@ pub record Held (f : Layout) (l : List ℕ) (a : Account) : Type 0 where
   pub state : a ≡ account_in f l
 
 -- so are the eleven fields that are lent
-abbrev pub HeldIn : Layout → Bor (List ℕ) → OfEleven
+abbrev pub HeldIn : Layout → MutBor (List ℕ) → OfEleven
 HeldIn f image = eleven (Held f image.now)

@@ -1,4 +1,6 @@
 // A list of calls, served on the account that a lent image holds.
+#![tactic(auto)]
+
 ghost use Rattle.image_parts.specs.Layout.{current};
 ghost use Rattle.pool_state.specs.Lent.{was, is};
 ghost use Rattle.image_calls.specs.Lists.{BatchOver, HeldIn};
@@ -29,7 +31,7 @@ fn serve_held(
     answers: &mut [i64],
 ) -> i64
     requires { HeldIn current image lowest total first heads start end enabled previous next lprev lnext }
-    ensures { BatchOver current (was image) (was calls) (was answers) result (is image) (is answers) }
+    ensures { BatchOver current (was image) calls.now (was answers) result (is image) (is answers) }
 {
     if list_fits(calls, answers.len()) {
         serve_list_in(

@@ -6,7 +6,7 @@ ghost use Rattle.image_parts.specs.Read.{number_in};
 use pool_state::{LISTS, POOL};
 
 // A version of the image is a value: its number, its number of records, the bytes of a link, and those of a low figure after the heads.
-#[derive(Drop)]
+#[derive(Clone, Copy)]
 pub struct Layout {
     pub version: u64,
     pub records: usize,

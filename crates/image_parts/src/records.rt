@@ -8,7 +8,7 @@ use crate::links::write_links;
 use bytes_be::{put_be, put_word};
 use pool_state::{Address, RecordIndex};
 
-#[derive(Drop)]
+#[derive(Clone, Copy)]
 pub struct MemoryEntry {
     pub start: Address,
     pub end: Address,

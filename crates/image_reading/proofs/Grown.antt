@@ -139,8 +139,8 @@ grows_from n m s t p a b g h =
     let e₆ = filled-from _ _ m n _ _ p.enabled a.enabled b.enabled g.flags h.flags in
     let e₇ = filled-from _ _ m n _ _ p.previous a.previous b.previous g.previouses h.previouses in
     let e₈ = filled-from _ _ m n _ _ p.next a.next b.next g.nexts h.nexts in
-    let e₉ = filled-from _ _ m n _ _ p.list_prev a.list-prev b.list-prev g.lprevs h.lprevs in
-    let e₀ = filled-from _ _ m n _ _ p.list_next a.list-next b.list-next g.lnexts h.lnexts in
+    let e₉ = filled-from _ _ m n _ _ p.list_prev a.list_prev b.list_prev g.lprevs h.lprevs in
+    let e₀ = filled-from _ _ m n _ _ p.list_next a.list_next b.list_next g.lnexts h.lnexts in
     (λ z. arrays (e₁ z) (e₂ z) (e₃ z) (e₄ z) (e₅ z) (e₆ z) (e₇ z) (e₈ z) (e₉ z) (e₀ z))
 
 -- ---- the check of one tells of the other
@@ -161,8 +161,8 @@ module _ (n m : ℕ) (le : n ≤ m) (most : m ≤ none) (s p : MemoryAllocator) 
     enabled = g.flags.sized;
     previous = g.previouses.sized;
     next = g.nexts.sized;
-    list-prev = g.lprevs.sized;
-    list-next = g.lnexts.sized;
+    list_prev = g.lprevs.sized;
+    list_next = g.lnexts.sized;
   }
 
   module _ (h : SoundState m p) where

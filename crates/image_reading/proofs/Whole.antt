@@ -40,8 +40,8 @@ state-sized f l = record {
   enabled = length-tab f.records 0 _;
   previous = length-tab f.records 0 _;
   next = length-tab f.records 0 _;
-  list-prev = length-tab f.records 0 _;
-  list-next = length-tab f.records 0 _;
+  list_prev = length-tab f.records 0 _;
+  list_next = length-tab f.records 0 _;
 }
 
 -- the arrays of the empty state
@@ -179,8 +179,8 @@ module _ (f : Layout) (l : List ℕ) where
           let e₂ : number_in l (here + end_at) word ≡ 0 = number-here f l i end_at ∙ sym (at-tab 0 n _ i b) ∙ s.end in
           let e₃ = none_number 0 (omega arith) (link_here f l i 0 ∙ sym (at-tab 0 n _ i b) ∙ s.previous) in
           let e₄ = none_number 1 (omega arith) (link_here f l i 1 ∙ sym (at-tab 0 n _ i b) ∙ s.next) in
-          let e₅ = none_number 2 (omega arith) (link_here f l i 2 ∙ sym (at-tab 0 n _ i b) ∙ s.list-prev) in
-          let e₆ = none_number 3 (omega arith) (link_here f l i 3 ∙ sym (at-tab 0 n _ i b) ∙ s.list-next) in
+          let e₅ = none_number 2 (omega arith) (link_here f l i 2 ∙ sym (at-tab 0 n _ i b) ∙ s.list_prev) in
+          let e₆ = none_number 3 (omega arith) (link_here f l i 3 ∙ sym (at-tab 0 n _ i b) ∙ s.list_next) in
           rw (eq-eqb _ 0 e₁, eq-eqb _ 0 e₂, eq-eqb _ (no_link f) e₃, eq-eqb _ (no_link f) e₄, eq-eqb _ (no_link f) e₅, eq-eqb _ (no_link f) e₆)
 
       used-bytes : flag_at l here ≡ 1 → used_at l here ≡ true

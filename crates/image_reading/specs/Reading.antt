@@ -68,21 +68,21 @@ pub record ReadsRanges (m : ℕ) (f : Layout) (l : List ℕ) (r : Bool) (s : Mem
   pub told : r ≡ holds_ranges f l
   pub ranges : r ≡ true → s ≡ grown_ranges f.records m (state_in_lem f l)
 
-abbrev pub ReadsTen : ℕ → Layout → Lent (List ℕ) → Bool → OfLent
-ReadsTen m f image r = turns (λ s s'. ReadsRanges m f (was image) r s')
+abbrev pub ReadsTen : ℕ → Layout → List ℕ → Bool → OfLent
+ReadsTen m f image r = turns (λ s s'. ReadsRanges m f image r s')
 
 -- r tells whether the bytes are the image of a sound account; where they are, the eleven fields become it, with m records
 pub record ReadsAccount (m : ℕ) (f : Layout) (l : List ℕ) (r : Bool) (a : Account) : Type 0 where
   pub told : r ≡ readable f l
   pub state : r ≡ true → a ≡ grown f.records m (account_in f l)
 
-abbrev pub ReadsFields : ℕ → Layout → Lent (List ℕ) → Bool → OfLentEleven
-ReadsFields m f image r = turns_eleven (λ a a'. ReadsAccount m f (was image) r a')
+abbrev pub ReadsFields : ℕ → Layout → List ℕ → Bool → OfLentEleven
+ReadsFields m f image r = turns_eleven (λ a a'. ReadsAccount m f image r a')
 
 -- the same, of a layout that has all the records
 pub record ReadsCurrent (f : Layout) (l : List ℕ) (r : Bool) (a : Account) : Type 0 where
   pub told : r ≡ readable f l
   pub state : r ≡ true → a ≡ account_in f l
 
-abbrev pub ReadsCurrentFields : Layout → Lent (List ℕ) → Bool → OfLentEleven
-ReadsCurrentFields f image r = turns_eleven (λ a a'. ReadsCurrent f (was image) r a')
+abbrev pub ReadsCurrentFields : Layout → List ℕ → Bool → OfLentEleven
+ReadsCurrentFields f image r = turns_eleven (λ a a'. ReadsCurrent f image r a')

@@ -1,8 +1,9 @@
 // An image of any layout, read into lent fields: the ranges, and the lowest figure beside them.
+#![tactic(auto)]
+
 ghost use Rattle.std.specs.Prelude.{cond, ◌≡◌, ◌≤◌, eqb, length};
 ghost use Rattle.image_parts.specs.Layout.{Lawful, Housed, current, word, low_at, records_at_lem};
 ghost use Rattle.image_parts.specs.Read.{number_in};
-ghost use Rattle.pool_state.specs.Lent.{was};
 ghost use Rattle.pool_state.specs.Shown.{pool};
 ghost use Rattle.image_reading.specs.Reading.{headed, FreshFields, ReadsTen, ReadsFields, ReadsCurrentFields};
 
@@ -18,7 +19,7 @@ use pool_state::{LISTS, POOL, RecordIndex};
 // Whether length, version and length field are right.
 fn is_headed(image: &[u8], form: Layout) -> bool
     requires { Lawful form }
-    ensures { result ≡ headed form (was image) }
+    ensures { result ≡ headed form image.now }
 {
     let size = image_size(form);
     let version = form.version;
@@ -35,7 +36,7 @@ fn is_headed(image: &[u8], form: Layout) -> bool
 fn low_in(image: &[u8], form: Layout, total: u64) -> u64
     requires lawful { Lawful form }
     requires form_in_bounds { records_at_lem form ≤ length image.now }
-    ensures { result ≡ cond (eqb form.low 0) total (number_in (was image) (low_at form) word) }
+    ensures { result ≡ cond (eqb form.low 0) total (number_in image.now (low_at form) word) }
 {
     if form.low == 0 {
         return total;
@@ -60,7 +61,7 @@ fn read_ranges(
 ) -> bool
     requires housed { Housed form }
     requires fresh_fields { FreshFields pool total first heads start end enabled previous next lprev lnext }
-    ensures { ReadsTen pool form image result total first heads start end enabled previous next lprev lnext }
+    ensures { ReadsTen pool form image.now result total first heads start end enabled previous next lprev lnext }
 {
     if is_headed(image, form) {
         let tally = read_records(
@@ -108,7 +109,7 @@ pub fn read_fields(
 ) -> bool
     requires housed { Housed form }
     requires fresh_fields { FreshFields pool total first heads start end enabled previous next lprev lnext }
-    ensures { ReadsFields pool form image result lowest total first heads start end enabled previous next lprev lnext }
+    ensures { ReadsFields pool form image.now result lowest total first heads start end enabled previous next lprev lnext }
 {
     if read_ranges(
         image, form, total, first, heads, start, end, enabled, previous, next, lprev, lnext,
@@ -135,7 +136,7 @@ pub fn read_current(
     lnext: &mut [u16; POOL],
 ) -> bool
     requires { FreshFields pool total first heads start end enabled previous next lprev lnext }
-    ensures { ReadsCurrentFields current image result lowest total first heads start end enabled previous next lprev lnext }
+    ensures { ReadsCurrentFields current image.now result lowest total first heads start end enabled previous next lprev lnext }
 {
     let form = current_layout();
     read_fields(

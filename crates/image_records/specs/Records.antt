@@ -1,6 +1,6 @@
 -- The records in a list of bytes, one by one: decoded and counted where they are in use, compared with the fresh one where they are not. Assumes nothing.
 use Rattle.std.specs.Prelude.{ℕ, zero, suc, ◌+◌, ◌*◌, ◌<◌, ◌≤◌, Bool, true, false, cond, ◌&&◌, List, ◌≡◌, eqb, length, get_or, replicate}
-use Rattle.std.specs.Borrow.{Bor}
+use Rattle.std.specs.Borrow.{MutBor}
 use Rattle.linked_lists.specs.Links.{none}
 use Rattle.pool_state.specs.Lent.{Lent, was, is}
 use Rattle.check_records.specs.Records.{proper, records}
@@ -85,7 +85,7 @@ pub record RecordsIn (m n : ℕ) (f : Layout) (l : List ℕ) (start end : List �
 -- ---- the seven lent arrays of the records
 
 -- as in the empty state
-pub record FreshRecords (n : ℕ) (start end : Bor (List ℕ)) (enabled : Bor (List Bool)) (previous next lprev lnext : Bor (List ℕ)) : Type 0 where
+pub record FreshRecords (n : ℕ) (start end : MutBor (List ℕ)) (enabled : MutBor (List Bool)) (previous next lprev lnext : MutBor (List ℕ)) : Type 0 where
   pub starts : start.now ≡ replicate n 0
   pub ends : end.now ≡ replicate n 0
   pub flags : enabled.now ≡ replicate n false
@@ -95,8 +95,8 @@ pub record FreshRecords (n : ℕ) (start end : Bor (List ℕ)) (enabled : Bor (L
   pub lnexts : lnext.now ≡ replicate n none
 
 -- r is broken where a record of the layout is neither used nor fresh; else the arrays of m become those in the bytes, filled up, and r counts those in use
-pub record ReadsRecords (m : ℕ) (f : Layout) (image : Lent (List ℕ)) (r : Tally) (start end : Lent (List ℕ)) (enabled : Lent (List Bool)) (previous next lprev lnext : Lent (List ℕ)) : Type 0 where
-  pub broken : r ≡ Broken → plain f (was image) f.records 0 ≡ false
-  pub plainly : (c : ℕ) → r ≡ Of c → plain f (was image) f.records 0 ≡ true
-  pub read : (c : ℕ) → r ≡ Of c → RecordsIn m f.records f (was image) (is start) (is end) (is enabled) (is previous) (is next) (is lprev) (is lnext)
+pub record ReadsRecords (m : ℕ) (f : Layout) (image : List ℕ) (r : Tally) (start end : Lent (List ℕ)) (enabled : Lent (List Bool)) (previous next lprev lnext : Lent (List ℕ)) : Type 0 where
+  pub broken : r ≡ Broken → plain f image f.records 0 ≡ false
+  pub plainly : (c : ℕ) → r ≡ Of c → plain f image f.records 0 ≡ true
+  pub read : (c : ℕ) → r ≡ Of c → RecordsIn m f.records f image (is start) (is end) (is enabled) (is previous) (is next) (is lprev) (is lnext)
   pub counted : (c : ℕ) → r ≡ Of c → records m (is start) (is end) (is enabled) (is previous) (is next) (is lprev) (is lnext) ≡ Of c

@@ -12,7 +12,7 @@ use image_parts::links::link_of;
 // The number in the eight bytes from `at` on.
 pub fn word_in(image: &[u8], at: usize) -> u64
     requires { at + word ≤ length image.now }
-    ensures { result ≡ number_in (was image) at word }
+    ensures { result ≡ number_in image.now at word }
 {
     read_word(&image[at..at + WORD])
 }
@@ -21,7 +21,7 @@ pub fn word_in(image: &[u8], at: usize) -> u64
 pub fn link_number_in(image: &[u8], form: Layout, at: usize, k: usize) -> u64
     requires lawful { Lawful form }
     requires link_in_bounds { at + form.link * k + form.link ≤ length image.now }
-    ensures value { result ≡ link_number_in_lem form (was image) at k }
+    ensures value { result ≡ link_number_in_lem form image.now at k }
     ensures fits { result ≤ no_link form }
 {
     let width = form.link;
@@ -36,7 +36,7 @@ pub fn link_number_in(image: &[u8], form: Layout, at: usize, k: usize) -> u64
 pub fn link_in(image: &[u8], form: Layout, at: usize, k: usize) -> u16
     requires lawful { Lawful form }
     requires link_in_bounds { at + form.link * k + form.link ≤ length image.now }
-    ensures { result ≡ link_in form (was image) at k }
+    ensures { result ≡ link_in form image.now at k }
 {
     link_of(form, link_number_in(image, form, at, k)).0
 }
@@ -45,7 +45,7 @@ pub fn link_in(image: &[u8], form: Layout, at: usize, k: usize) -> u16
 pub fn read_links(image: &[u8], form: Layout, at: usize, links: &mut [u16])
     requires lawful { Lawful form }
     requires spaced { Spaced at form.link form.link (length links.old) (length image.now) }
-    ensures { is links ≡ links_in form (was image) at form.link (length (was links)) }
+    ensures { is links ≡ links_in form image.now at form.link (length (was links)) }
 {
     for k in 0..links.len() {
         links[k] = link_in(image, form, at, k);

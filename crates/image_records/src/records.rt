@@ -1,7 +1,6 @@
 // The records of an image, over any layout: one in use is decoded and counted, an unused one compared with the fresh one.
 ghost use Rattle.std.specs.Prelude.{◌≡◌, ◌+◌, ◌*◌, ◌≤◌, length};
 ghost use Rattle.image_parts.specs.Layout.{Lawful, Housed, image_size_lem, record_size_lem};
-ghost use Rattle.pool_state.specs.Lent.{was};
 ghost use Rattle.pool_state.specs.Shown.{pool};
 ghost use Rattle.image_records.specs.Records.{entry_in_lem, unlinked_at, fresh_at, FreshRecords, ReadsRecords};
 
@@ -16,7 +15,7 @@ use pool_state::{Address, POOL, RecordIndex};
 fn is_unlinked(image: &[u8], form: Layout, at: usize) -> bool
     requires lawful { Lawful form }
     requires link_in_bounds { at + form.link * 4 ≤ length image.now }
-    ensures { result ≡ unlinked_at form (was image) at }
+    ensures { result ≡ unlinked_at form image.now at }
 {
     let width = form.link;
     if width == 2 {
@@ -33,7 +32,7 @@ fn is_unlinked(image: &[u8], form: Layout, at: usize) -> bool
 fn is_fresh(image: &[u8], form: Layout, at: usize) -> bool
     requires lawful { Lawful form }
     requires form_in_bounds { at + record_size_lem form ≤ length image.now }
-    ensures { result ≡ fresh_at form (was image) at }
+    ensures { result ≡ fresh_at form image.now at }
 {
     if word_in(image, at) != 0 {
         return false;
@@ -48,7 +47,7 @@ fn is_fresh(image: &[u8], form: Layout, at: usize) -> bool
 fn record_in(image: &[u8], form: Layout, at: usize) -> MemoryEntry
     requires lawful { Lawful form }
     requires form_in_bounds { at + record_size_lem form ≤ length image.now }
-    ensures { result ≡ entry_in_lem form (was image) at }
+    ensures { result ≡ entry_in_lem form image.now at }
 {
     MemoryEntry {
         start: Address(word_in(image, at)),
@@ -77,7 +76,7 @@ pub fn read_records(
     requires housed { Housed form }
     requires image_len { length image.now ≡ image_size_lem form }
     requires fresh_records { FreshRecords pool start end enabled previous next lprev lnext }
-    ensures { ReadsRecords pool form image result start end enabled previous next lprev lnext }
+    ensures { ReadsRecords pool form image.now result start end enabled previous next lprev lnext }
 {
     let from = records_at(form);
     let size = record_size(form);

@@ -1,4 +1,6 @@
 // An image of any version that is read, written again as the current one.
+#![tactic(auto)]
+
 ghost use Rattle.std.specs.Prelude.{◌≡◌};
 ghost use Rattle.pool_state.specs.Lent.{was, is};
 ghost use Rattle.image.specs.Writing.{written};
@@ -12,7 +14,7 @@ use pool_state::{LISTS, NONE, POOL, RecordIndex};
 
 // The sound account whose image `old` is, written over a slice of the current length; else nothing changes. Eleven locals are the whole account.
 pub fn upgrade_image(old: &[u8], image: &mut [u8]) -> ImageAnswer
-    ensures { written result (is image) ≡ upgrading_of (was old) (was image) }
+    ensures { written result (is image) ≡ upgrading_of old.now (was image) }
 {
     if image.len() != IMAGE {
         return ImageAnswer::InvalidEntry;

@@ -1,6 +1,6 @@
 -- The bytes of an account, and what stands of them before they are written. Assumes nothing.
 use Rattle.std.specs.Prelude.{ℕ, ◌+◌, ◌<◌, Bool, false, List, ◌++◌, ◌≢◌, ◌≡◌, get_or, take, drop}
-use Rattle.std.specs.Borrow.{Bor}
+use Rattle.std.specs.Borrow.{Bor, MutBor}
 use Rattle.pool_state.specs.Lent.{Lent, was, is}
 use Rattle.pool_state.specs.declared.MemoryAllocator.{MemoryAllocator}
 use Rattle.account_state.specs.declared.Account.{Account}
@@ -45,12 +45,12 @@ abbrev pub Standing : Layout → ℕ → List ℕ → (ℕ → MemoryEntry) → 
 Standing f n l entry = (i : ℕ) → i < n → (entry i).enabled ≡ false → flag_in f l i ≢ 1 → record_in_lem f l i ≡ record_bytes f (entry i)
 
 -- so it is with the lent arrays, unless every record is written anew
-abbrev pub Stands : Layout → ℕ → Bool → Bor (List ℕ) → Bor (List ℕ) → Bor (List ℕ) → Bor (List Bool) → Bor (List ℕ) → Bor (List ℕ) → Bor (List ℕ) → Bor (List ℕ) → Type 0
+abbrev pub Stands : Layout → ℕ → Bool → MutBor (List ℕ) → Bor (List ℕ) → Bor (List ℕ) → Bor (List Bool) → Bor (List ℕ) → Bor (List ℕ) → Bor (List ℕ) → Bor (List ℕ) → Type 0
 Stands f n anew image start end enabled previous next lprev lnext =
     anew ≡ false → Standing f n image.now (entry_of start.now end.now enabled.now previous.now next.now lprev.now lnext.now)
 
 -- the first n records of the lent arrays stand in the image, and its head is as it was
-abbrev pub WritesRecords : Layout → ℕ → Lent (List ℕ) → Lent (List ℕ) → Lent (List ℕ) → Lent (List Bool) → Lent (List ℕ) → Lent (List ℕ) → Lent (List ℕ) → Lent (List ℕ) → Type 0
+abbrev pub WritesRecords : Layout → ℕ → Lent (List ℕ) → List ℕ → List ℕ → List Bool → List ℕ → List ℕ → List ℕ → List ℕ → Type 0
 WritesRecords f n image start end enabled previous next lprev lnext =
     is image ≡ take (records_at_lem f) (was image)
-    ++ joined n 0 (λ i. record_bytes f (entry_of (was start) (was end) (was enabled) (was previous) (was next) (was lprev) (was lnext) i))
+    ++ joined n 0 (λ i. record_bytes f (entry_of start end enabled previous next lprev lnext i))

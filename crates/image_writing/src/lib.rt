@@ -1,4 +1,6 @@
 // The image of an account whose fields are lent, over a slice of its length.
+#![tactic(auto)]
+
 ghost use Rattle.std.specs.Prelude.{not, ◌&&◌, ◌≡◌, eqb, length};
 ghost use Rattle.image_parts.specs.Layout.{current, image_size_lem};
 ghost use Rattle.pool_state.specs.Lent.{was, is};
@@ -39,7 +41,7 @@ fn write_records(
 )
     requires image_len { length image.old ≡ image_size_lem current }
     requires stands { Stands current pool anew image start end enabled previous next lprev lnext }
-    ensures { WritesRecords current pool image start end enabled previous next lprev lnext }
+    ensures { WritesRecords current pool image start.now end.now enabled.now previous.now next.now lprev.now lnext.now }
 {
     for i in 0..POOL {
         let at = RECORDS + RECORD * i;
@@ -77,7 +79,7 @@ pub fn write_fields(
 )
     requires image_len { length image.old ≡ image_size_lem current }
     requires stands { Stands current pool anew image start end enabled previous next lprev lnext }
-    ensures { is image ≡ image_of current (account (arrays total first.0 (was heads) (was start) (was end) (was enabled) (was previous) (was next) (was lprev) (was lnext)) lowest) }
+    ensures { is image ≡ image_of current (account (arrays total first.0 heads.now start.now end.now enabled.now previous.now next.now lprev.now lnext.now) lowest) }
 {
     write_records(
         image, anew, start, end, enabled, previous, next, lprev, lnext,
