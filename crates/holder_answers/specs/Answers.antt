@@ -1,6 +1,6 @@
 -- The script program after a first line `holders`: the text that a line prints, as bytes, and the state that it leaves. n is the number of records. Assumes nothing.
 use Rattle.std.specs.Prelude.{ℕ, cond, List, [], ◌∷◌, ◌++◌, ◌≡◌, eqb, length}
-use Rattle.std.specs.Borrow.{Bor}
+use Rattle.std.specs.Borrow.{MutBor}
 use Rattle.rules.specs.Rules.{Range, sum}
 use Rattle.pool_state.specs.Lent.{Lent, was, is, OfFields, OfLent, fields, turns}
 use Rattle.pool_state.specs.declared.MemoryAllocator.{MemoryAllocator}
@@ -68,7 +68,7 @@ state_in_lem m w = record { memory = m; register = record { entries = entries_in
 abbrev pub Sound : ℕ → HolderAllocator → Type 0
 Sound n s = SoundHolding (states n) entries (holding_of s)
 
-abbrev pub SoundWords : ℕ → Bor (List ℕ) → OfFields
+abbrev pub SoundWords : ℕ → MutBor (List ℕ) → OfFields
 SoundWords n words = fields (λ m. Sound n (state_in_lem m words.now))
 
 abbrev pub turns_words : (HolderAllocator → HolderAllocator → Type 0) → Lent (List ℕ) → OfLent
@@ -80,5 +80,5 @@ ServesIn n q k = turns_words (λ s s'. record { answer = k; state = s' } ≡ mad
 abbrev pub SaysIn : ℕ → HolderLine → Lent (List ℕ) → ℕ → ℕ → Lent (List ℕ) → OfLent
 SaysIn n l out at r = turns_words (λ s s'. HolderSays n s l (was out) at s' r (is out))
 
-abbrev pub HolderSaysIn : ℕ → Lent (List ℕ) → Lent (List ℕ) → ℕ → ℕ → Lent (List ℕ) → OfLent
-HolderSaysIn n line out at r = SaysIn n (holder_line_of (was line)) out at r
+abbrev pub HolderSaysIn : ℕ → List ℕ → Lent (List ℕ) → ℕ → ℕ → Lent (List ℕ) → OfLent
+HolderSaysIn n line out at r = SaysIn n (holder_line_of line) out at r

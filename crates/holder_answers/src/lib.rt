@@ -1,5 +1,7 @@
 // The answer to one line after a first line `holders`: the call is made on the lent fields of a state and the words of its register, and its text goes into a
 // buffer. The register's calls take the state by value.
+#![tactic(auto)]
+
 ghost use Rattle.std.specs.Prelude.{◌≡◌, ◌+◌, ◌≤◌, length};
 ghost use Rattle.pool_state.specs.Shown.{pool};
 ghost use Rattle.pool_state.specs.State.{arrays};
@@ -35,7 +37,7 @@ fn state_in(
     lnext: &[u16; POOL],
     words: &[u64; WORDS],
 ) -> HolderAllocator
-    ensures { result ≡ state_in_lem (arrays total first (was heads) (was start) (was end) (was enabled) (was previous) (was next) (was lprev) (was lnext)) (was words) }
+    ensures { result ≡ state_in_lem (arrays total first heads.now start.now end.now enabled.now previous.now next.now lprev.now lnext.now) words.now }
 {
     let register = register_in(words);
     HolderAllocator {
@@ -196,7 +198,7 @@ pub fn answer_holder_line(
 ) -> usize
     requires sound_words { SoundWords pool words total first heads start end enabled previous next lprev lnext }
     requires pool_in_bounds { at + room pool ≤ length out.old }
-    ensures { HolderSaysIn pool line out at result words total first heads start end enabled previous next lprev lnext }
+    ensures { HolderSaysIn pool line.now out at result words total first heads start end enabled previous next lprev lnext }
 {
     match parse_holder_line(line) {
         HolderLine::Asks(request) => answer_call(

@@ -17,8 +17,8 @@ register_of holders starts lasts = tab entries 0 (entry_of holders starts lasts)
 
 -- ---- as the parameters that are lent say it
 
-abbrev pub register_was : Lent (List ℕ) → Lent (List ℕ) → Lent (List ℕ) → List Entry
-register_was holders starts lasts = register_of (was holders) (was starts) (was lasts)
+abbrev pub register_was : List ℕ → List ℕ → List ℕ → List Entry
+register_was holders starts lasts = register_of holders starts lasts
 
 -- each array has a place for each entry
 pub record Roomy (holders starts lasts : List ℕ) : Type 0 where
@@ -31,5 +31,5 @@ abbrev pub SomeFree : Bor (List ℕ) → Bor (List ℕ) → Bor (List ℕ) → �
 SomeFree start end next first = (c : List Range) × Ordered pool c start.now end.now next.now first
 
 -- what is said of the free ranges that they led along
-abbrev pub OfFree : (List Range → Type 0) → Lent (List ℕ) → Lent (List ℕ) → Lent (List ℕ) → ℕ → Type 0
-OfFree P start end next first = (c : List Range) → Ordered pool c (was start) (was end) (was next) first → P c
+abbrev pub OfFree : (List Range → Type 0) → List ℕ → List ℕ → List ℕ → ℕ → Type 0
+OfFree P start end next first = (c : List Range) → Ordered pool c start end next first → P c

@@ -1,7 +1,9 @@
 // The register in three lent arrays, one for each number of an entry: its entries found, and held against a piece and the free ranges.
+#![tactic(auto)]
+
 ghost use Rattle.std.specs.Prelude.{◌&&◌, ◌≡◌, ◌+◌, ◌<◌, ◌≤◌, length, get_or, drop};
 ghost use Rattle.rules.specs.Rules.{any, meets};
-ghost use Rattle.pool_state.specs.Lent.{was, is};
+ghost use Rattle.pool_state.specs.Lent.{is};
 ghost use Rattle.holder_rules.specs.Register.{entries, blank, held};
 ghost use Rattle.holder_rules.specs.Sound.{is_good_lem, is_apart, register_sound};
 ghost use Rattle.holder_entries.specs.Places.{unused_in, handed_in};
@@ -25,7 +27,7 @@ pub fn read_arrays(
     lasts: &mut [u64; ENTRIES],
 )
     requires { (memory_at ≤ length image.now) × Roomy holders.old starts.old lasts.old }
-    ensures { register_of (is holders) (is starts) (is lasts) ≡ register_in_lem (was image) }
+    ensures { register_of (is holders) (is starts) (is lasts) ≡ register_in_lem image.now }
 {
     let mut i: usize = 0;
     while i < ENTRIES {
@@ -44,7 +46,7 @@ fn entry_in(
     i: usize,
 ) -> Entry
     requires { i < entries }
-    ensures { result ≡ get_or (register_was holders starts lasts) i blank }
+    ensures { result ≡ get_or (register_was holders.now starts.now lasts.now) i blank }
 {
     Entry {
         holder: Holder(holders[i]),
@@ -59,7 +61,7 @@ pub fn find_unused_in(
     starts: &[u64; ENTRIES],
     lasts: &[u64; ENTRIES],
 ) -> Place
-    ensures { result ≡ unused_in (register_was holders starts lasts) }
+    ensures { result ≡ unused_in (register_was holders.now starts.now lasts.now) }
 {
     let mut i: usize = 0;
     while i < ENTRIES {
@@ -81,7 +83,7 @@ pub fn find_handed_in(
     address: Address,
     size: u64,
 ) -> Place
-    ensures { result ≡ handed_in holder.0 address.0 size (register_was holders starts lasts) }
+    ensures { result ≡ handed_in holder.0 address.0 size (register_was holders.now starts.now lasts.now) }
 {
     let mut i: usize = 0;
     while i < ENTRIES {
@@ -103,7 +105,7 @@ pub fn meets_held_in(
     address: Address,
     size: u64,
 ) -> bool
-    ensures { result ≡ any (meets address.0 (address.0 + size)) (held (drop from (register_was holders starts lasts))) }
+    ensures { result ≡ any (meets address.0 (address.0 + size)) (held (drop from (register_was holders.now starts.now lasts.now))) }
 {
     let mut i = from;
     while i < ENTRIES {
@@ -126,7 +128,7 @@ fn meets_free(
     past: Address,
 ) -> bool
     requires { SomeFree start end next first.0 × (address.0 < past.0) }
-    ensures { OfFree (λ c. result ≡ any (meets address.0 past.0) c) start end next first.0 }
+    ensures { OfFree (λ c. result ≡ any (meets address.0 past.0) c) start.now end.now next.now first.0 }
 {
     let gap: Gap = search_entry_previous_address(start, next, first, address);
     overlaps_neighbour(start, end, gap.before, gap.after, address, past)
@@ -145,7 +147,7 @@ fn is_entry_sound_in(
     first: RecordIndex,
 ) -> bool
     requires { SomeFree start end next first.0 }
-    ensures { OfFree (λ c. result ≡ (is_good_lem e && is_apart c e (drop from (register_was holders starts lasts)))) start end next first.0 }
+    ensures { OfFree (λ c. result ≡ (is_good_lem e && is_apart c e (drop from (register_was holders.now starts.now lasts.now)))) start.now end.now next.now first.0 }
 {
     if is_good(e) {
         if e.holder.0 == 0 {
@@ -174,7 +176,7 @@ pub fn is_register_sound_in(
     first: RecordIndex,
 ) -> bool
     requires { SomeFree start end next first.0 }
-    ensures { OfFree (λ c. result ≡ register_sound c (register_was holders starts lasts)) start end next first.0 }
+    ensures { OfFree (λ c. result ≡ register_sound c (register_was holders.now starts.now lasts.now)) start.now end.now next.now first.0 }
 {
     let mut i: usize = 0;
     while i < ENTRIES {

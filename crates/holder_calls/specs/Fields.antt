@@ -1,6 +1,6 @@
 -- What the functions say that are lent the eleven fields of the allocator in an image. Assumes nothing.
 use Rattle.std.specs.Prelude.{ℕ, List, ◌≡◌, ℤ}
-use Rattle.std.specs.Borrow.{Bor}
+use Rattle.std.specs.Borrow.{MutBor}
 use Rattle.rules.specs.Rules.{Call}
 use Rattle.account_state.specs.Lent.{OfEleven, eleven, OfLentEleven, turns_eleven}
 use Rattle.account_state.specs.declared.Account.{Account}
@@ -19,5 +19,5 @@ abbrev pub AnsweredIn : ℕ → Call → ℤ → OfLentEleven
 AnsweredIn n c r = turns_eleven (λ a a'. Answered n c a r a')
 
 -- the eleven fields are those of the allocator in the image
-abbrev pub HeldIn : Layout → Bor (List ℕ) → OfEleven
+abbrev pub HeldIn : Layout → MutBor (List ℕ) → OfEleven
 HeldIn f image = eleven (Held f (memory_in image.now))

@@ -1,4 +1,6 @@
 // A call of the register on the state that a lent image holds.
+#![tactic(auto)]
+
 mod over;
 mod settle;
 

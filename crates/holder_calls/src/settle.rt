@@ -34,7 +34,7 @@ fn settle_offer(
     address: Address,
     size: u64,
 ) -> i64
-    ensures { (l : List ℕ) → Asks current (Free address.0 size) l (register_was holders starts lasts) answer → Settles current (Free address.0 size) (offer (images current []) address.0 size (holding_in l)) l answer result l }
+    ensures { (l : List ℕ) → Asks current (Free address.0 size) l (register_was holders.now starts.now lasts.now) answer → Settles current (Free address.0 size) (offer (images current []) address.0 size (holding_in l)) l answer result l }
 {
     if answer == INVALID_REQUEST {
         return answer;

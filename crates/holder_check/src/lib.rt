@@ -1,4 +1,6 @@
 // Whether the allocator and its register are sound.
+#![tactic(auto)]
+
 ghost use Rattle.std.specs.Prelude.{◌≡◌, ◌&&◌, ◌≤◌, suc, length, drop};
 ghost use Rattle.rules.specs.Rules.{range, any, meets};
 ghost use Rattle.memory_allocator.specs.Names.{pool};

@@ -69,6 +69,7 @@ none-full (q ∷ l) f = go (used q) (f q (inl refl)) (none-full l (λ e h. f e (
 
 pub some-not-full : (l : List Entry) (e : Entry) → Has e l → T (free e) → full l ≡ false
 unfolding full
+some-not-full [] e x'' t = elim x'' [ ]
 some-not-full (q ∷ l) e (inl d) t = ap (λ (x : Bool). x && full l) (T_false (used q) (rw (sym d) t))
 some-not-full (q ∷ l) e (inr h) t = go (used q) (some-not-full l e h t)
   where
@@ -89,6 +90,7 @@ any-held→ p (q ∷ l) = if (used q) (λ m. T (any p m) → (e : Entry) × Has 
 
 pub any-held← : (p : Range → Bool) (l : List Entry) (e : Entry) → Has e l → T (used e && p (range_of e)) → T (any p (held l))
 unfolding held any
+any-held← p [] e x'' t = elim x'' [ ]
 any-held← p (q ∷ l) e (inl d) t = go (used q) (rw (sym d) t)
   where
     go : (u : Bool) → T (u && p (range_of q)) → T (any p (cond u (range_of q ∷ held l) (held l)))

@@ -1,4 +1,6 @@
 // The entries of the register: found, stored, and held against a piece.
+#![tactic(auto)]
+
 ghost use Rattle.std.specs.Prelude.{◌&&◌, ◌≡◌, ◌+◌, ◌<◌, drop, set};
 ghost use Rattle.rules.specs.Rules.{any, meets};
 ghost use Rattle.holder_rules.specs.Register.{entries, blank, used, range_of, held, hands};
@@ -8,7 +10,7 @@ use holder_rules::{ENTRIES, Entry, EntryIndex, Holder, Register};
 use pool_state::Address;
 
 // An entry of the register, or none.
-#[derive(Drop)]
+#[derive(Clone, Copy)]
 pub enum Place {
     At(EntryIndex),
     Nowhere,

@@ -56,7 +56,7 @@ pub fn write_front(image: &mut [u8], register: Register)
 
 fn read_entry(part: &[u8]) -> Entry
     requires { length part.now ≡ entry_size }
-    ensures { result ≡ entry_in_lem (was part) }
+    ensures { result ≡ entry_in_lem part.now }
 {
     let holder = read_be(&part[0..START]);
     let start = read_word(&part[START..LAST]);
@@ -71,7 +71,7 @@ fn read_entry(part: &[u8]) -> Entry
 // Entry i of an image.
 pub fn entry_at(image: &[u8], i: usize) -> Entry
     requires { (memory_at ≤ length image.now) × (i < entries) }
-    ensures { result ≡ entry_at_lem (was image) i }
+    ensures { result ≡ entry_at_lem image.now i }
 {
     let at = ENTRIES_AT + ENTRY * i;
     read_entry(&image[at..at + ENTRY])
@@ -80,7 +80,7 @@ pub fn entry_at(image: &[u8], i: usize) -> Entry
 // The register in an image.
 pub fn read_register(image: &[u8]) -> Register
     requires { memory_at ≤ length image.now }
-    ensures { result.entries ≡ register_in_lem (was image) }
+    ensures { result.entries ≡ register_in_lem image.now }
 {
     let unused = unused_entry();
     let mut entries = [unused; ENTRIES];

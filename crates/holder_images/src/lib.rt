@@ -1,4 +1,6 @@
 // The byte image of an allocator with its register, by value: its writer and its reader.
+#![tactic(auto)]
+
 use holder_rules::HolderAllocator;
 use image::ImageAnswer;
 
@@ -9,7 +11,7 @@ pub use read::read_holders_image;
 pub use write::write_holders_image;
 
 // What reading gives: a refused read hands over the state of `new`, which was never offered anything.
-#[derive(Drop)]
+#[derive(Clone, Copy)]
 pub struct HolderReading {
     pub answer: ImageAnswer,
     pub state: HolderAllocator,

@@ -66,6 +66,7 @@ in-held→ (e ∷ l) q = if (used e) (λ m. In q m → (x : Entry) × Has x (e �
 
 pub in-held← : (r : List Entry) (e : Entry) → Has e r → T (used e) → In (range_of e) (held r)
 unfolding held
+in-held← [] e x'' u = elim x'' [ ]
 in-held← (q ∷ l) e (inl d) u = go (used q) (subst (λ (x : Entry). T (used x)) d u)
   where
     go : (b : Bool) → T b → In (range_of e) (cond b (range_of q ∷ held l) (held l))

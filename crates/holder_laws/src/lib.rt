@@ -1,1 +1,2 @@
 // What follows from request T-07's definitions: proofs/. No code.
+#![tactic(auto)]

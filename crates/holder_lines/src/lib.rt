@@ -1,4 +1,6 @@
 // The lines of the script after a first line `holders`: the register's call, or the list, that a line says.
+#![tactic(auto)]
+
 ghost use Rattle.std.specs.Prelude.{◌≡◌, [], ◌∷◌, drop};
 ghost use Rattle.script_lines.specs.Fields.{fields, numbers_of};
 ghost use Rattle.holder_lines.specs.Lines.{said, spoken, holder_line_of};
@@ -10,7 +12,7 @@ use holder_serve::HolderRequest;
 use pool_state::Address;
 use script_lines::parse::{Field, LONGEST, field_at};
 
-#[derive(Drop)]
+#[derive(Clone, Copy)]
 pub enum HolderLine {
     Asks(HolderRequest),
     Held(Whose),

@@ -94,7 +94,7 @@ module _ (n : ℕ) (s : HolderAllocator) where
 
   module _ (ss ls ss' ls' : List ℕ) (r : Counted) where
     pub lists-sound : is_sound_lem n s ≡ true → accounts.Lists n s.memory ss ls r ss' ls' → FreeLists n s ss ls r ss' ls'
-    lists-sound e l = record { answer = rw e l.answer; starts-now = rw e l.starts-now; lasts_now = rw e l.lasts-now }
+    lists-sound e l = record { answer = rw e l.answer; starts-now = rw e l.starts-now; lasts_now = rw e l.lasts_now }
 
   pub lists-unsound : (ss ls : List ℕ) → is_sound_lem n s ≡ false → FreeLists n s ss ls (refused InvalidEntry) ss ls
   lists-unsound ss ls e = record { answer = rw e; starts-now = rw e; lasts_now = rw e }

@@ -1,4 +1,6 @@
 // What a state shows of itself: who holds what, by address, and how many bytes; the free bytes, and the listing of the free ranges.
+#![tactic(auto)]
+
 ghost use Rattle.std.specs.Prelude.{cond, ◌≡◌, ◌≤◌, ◌<◌, T};
 ghost use Rattle.rules.specs.Rules.{top, size, sum};
 ghost use Rattle.memory_allocator.specs.Names.{pool};
@@ -14,7 +16,7 @@ use holder_rules::{ENTRIES, Entry, HOLDERS, Holder, HolderAllocator, Register};
 use pool_state::Address;
 
 // Every holder, or one.
-#[derive(Drop)]
+#[derive(Clone, Copy)]
 pub enum Whose {
     All,
     One(Holder),

@@ -1,4 +1,6 @@
 // The texts of the answers that the register's calls give, and of its lists.
+#![tactic(auto)]
+
 ghost use Rattle.std.specs.Prelude.{◌≡◌, ◌+◌, ◌*◌, ◌≤◌, length};
 ghost use Rattle.pool_state.specs.Lent.{was, is};
 ghost use Rattle.holder_rules.specs.Register.{entries};
@@ -71,7 +73,7 @@ pub fn put_held(
     bytes: u64,
 ) -> usize
     requires { (count ≤ entries) × (at + row * (count + 1) ≤ length out.old) }
-    ensures { PutsWithin (row * (count + 1)) (held_table count bytes (was holders) (was starts) (was lasts)) (was out) at (is out) result }
+    ensures { PutsWithin (row * (count + 1)) (held_table count bytes holders.now starts.now lasts.now) (was out) at (is out) result }
 {
     let mut next = put_head(out, at, count, bytes);
     let mut i = 0;

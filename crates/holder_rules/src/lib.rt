@@ -1,4 +1,6 @@
 // The register of who holds what, above the allocator, and the kinds of number in it. Request T-07 as definitions: specs/.
+#![tactic(auto)]
+
 ghost use Rattle.std.specs.Prelude.{◌≡◌};
 ghost use Rattle.memory_allocator.specs.Names.{pool};
 ghost use Rattle.holder_rules.specs.States.{new_of};
@@ -11,27 +13,27 @@ pub const ENTRIES: usize = 64;
 pub const HOLDERS: u64 = 16;
 
 // The number of a holder; 0 stands for nobody, in an entry that is not used.
-#[derive(Drop)]
+#[derive(Clone, Copy)]
 pub struct Holder(pub u64);
 
-#[derive(Drop)]
+#[derive(Clone, Copy)]
 pub struct EntryIndex(pub usize);
 
 // A held range: who holds it, its first byte and its last.
-#[derive(Drop)]
+#[derive(Clone, Copy)]
 pub struct Entry {
     pub holder: Holder,
     pub start: Address,
     pub last: Address,
 }
 
-#[derive(Drop)]
+#[derive(Clone, Copy)]
 pub struct Register {
     pub entries: [Entry; ENTRIES],
 }
 
 // The allocator, and the register above it.
-#[derive(Drop)]
+#[derive(Clone, Copy)]
 pub struct HolderAllocator {
     pub memory: MemoryAllocator,
     pub register: Register,

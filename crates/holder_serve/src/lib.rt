@@ -1,4 +1,6 @@
 // The calls of the board and of the holders on a state by value. The allocator is asked as it is, before the register is looked at.
+#![tactic(auto)]
+
 mod pieces;
 
 ghost use Rattle.std.specs.Prelude.{true, not, ◌≡◌, T};
@@ -22,21 +24,21 @@ use pool_state::Address;
 const INVALID_REQUEST: u64 = 4;
 
 // The allocator's answer; not yours; the register is full.
-#[derive(Drop)]
+#[derive(Clone, Copy)]
 pub enum HolderAnswer {
     Memory(Answer),
     NotYours,
     RegisterFull,
 }
 
-#[derive(Drop)]
+#[derive(Clone, Copy)]
 pub struct HolderOutcome {
     pub answer: HolderAnswer,
     pub state: HolderAllocator,
 }
 
 // The board's offer, or a holder's call.
-#[derive(Drop)]
+#[derive(Clone, Copy)]
 pub enum HolderRequest {
     Offer(Address, u64),
     By(Holder, Request),

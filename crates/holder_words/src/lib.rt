@@ -1,6 +1,7 @@
 // A register in words, three an entry, which can be lent as one array.
+#![tactic(auto)]
+
 ghost use Rattle.std.specs.Prelude.{◌≡◌, ◌<◌};
-ghost use Rattle.pool_state.specs.Lent.{was};
 ghost use Rattle.holder_rules.specs.Register.{entries};
 ghost use Rattle.holder_words.specs.Words.{entry_at_lem, entries_in};
 
@@ -11,7 +12,7 @@ pub const WORDS: usize = 3 * ENTRIES;
 
 fn entry_at(words: &[u64; WORDS], i: usize) -> Entry
     requires { i < entries }
-    ensures { result ≡ entry_at_lem (was words) i }
+    ensures { result ≡ entry_at_lem words.now i }
 {
     let at = 3 * i;
     Entry {
@@ -23,7 +24,7 @@ fn entry_at(words: &[u64; WORDS], i: usize) -> Entry
 
 // The register that the words hold.
 pub fn register_in(words: &[u64; WORDS]) -> Register
-    ensures { result.entries ≡ entries_in (was words) entries }
+    ensures { result.entries ≡ entries_in words.now entries }
 {
     let mut register = Register {
         entries: [Entry {

@@ -1,5 +1,7 @@
 // The allocator with a register of who holds what: its state goes in by value and comes back by value. A client takes all from here: the
 // types, the calls, the check of a state, its lists and its totals.
+#![tactic(auto)]
+
 ghost use Rattle.std.specs.Prelude.{◌≡◌};
 ghost use Rattle.memory_allocator.specs.Names.{pool};
 ghost use Rattle.holders.specs.Promises.{offer_of, allocate_of, reserve_of, free_of};

@@ -1,0 +1,15 @@
+use Prim.Native.Nat.{◌-◌}
+use mathlib.Core.Path.{◌≡◌}
+use lib.ListN.{drop}
+use Rattle.holder_rules.specs.Register.{entries, free}
+use Rattle.holder_entries.specs.Places.{first_from, unused_in}
+use Rattle.holder_arrays.specs.Arrays.{register_of}
+use Rattle.holder_arrays.proofs.find_unused_in.Given as goal
+
+abbrev pub invariant-loop-i : goal.invariant-loop-i
+invariant-loop-i l =
+    unused_in (register_of l.holders l.starts l.lasts) ≡ first_from free l.i (drop l.i (register_of l.holders l.starts l.lasts))
+
+abbrev pub decreases-loop-i : goal.decreases-loop-i
+decreases-loop-i l =
+    entries - l.i

@@ -1,0 +1,15 @@
+use Prim.Native.Nat.{◌+◌, ◌-◌}
+use mathlib.Core.Path.{◌≡◌}
+use lib.ListN.{drop}
+use Rattle.rules.specs.Rules.{any, meets}
+use Rattle.holder_rules.specs.Register.{entries, held}
+use Rattle.holder_arrays.specs.Arrays.{register_of}
+use Rattle.holder_arrays.proofs.meets_held_in.Given as goal
+
+abbrev pub invariant-loop-i : goal.invariant-loop-i
+invariant-loop-i l =
+    any (meets l.address.0 (l.address.0 + l.size)) (held (drop l.from (register_of l.holders l.starts l.lasts))) ≡ any (meets l.address.0 (l.address.0 + l.size)) (held (drop l.i (register_of l.holders l.starts l.lasts)))
+
+abbrev pub decreases-loop-i : goal.decreases-loop-i
+decreases-loop-i l =
+    entries - l.i

@@ -1,0 +1,13 @@
+use borrow.Author.Tests.{eq-eqb, ne_eqb}
+use Rattle.holder_lines.specs.Lines.{said}
+use Rattle.holder_lines.proofs.with_four.Goals as goal
+
+pub returns-then-letter-eq114 : goal.returns-then-letter-eq114
+unfolding said
+returns-then-letter-eq114 c =
+    rw (eq-eqb _ 114 c.if-letter-eq114.true)
+
+pub returns : goal.returns
+unfolding said
+returns c =
+    rw (ne_eqb _ 114 c.if-letter-eq114.false)
