@@ -1,17 +1,17 @@
 -- A map on each way through its passes. Assumes nothing.
-use mathlib.Core.Path.{◌≡◌, refl, sym, ◌∙◌, ap, subst}
-use mathlib.Core.Bool.{Bool, true, false, not, cond}
+use mathlib.Core.Path.{◌≡◌, sym, ◌∙◌, ap, subst}
+use mathlib.Core.Bool.{Bool, true, false, not}
 use mathlib.Core.List.{List}
 use Prim.Native.Nat.{ℕ, ◌+◌, ◌*◌, ◌/◌, ◌^◌, ◌≤◌}
 use native.Mathlib.Omega.{arith}
-use lib.Dec.{T, eqb}
+use lib.Dec.{T}
 use lib.IntN.{ℤ, pos, negsuc}
 use lib.ListN.{length, replicate, length-replicate}
 use borrow.Author.Tests.{eq-eqb, ne_eqb}
 use Rattle.linked_lists.proofs.Laws.{true≢false}
 use Rattle.image_parts.specs.Layout.{current, image_size_lem}
 use Rattle.c_over.specs.CCalls.{Returned, returned}
-use Rattle.mapper_rules.specs.Walk.{span, input_top}
+use Rattle.mapper_rules.specs.Walk.{span}
 use Rattle.mapper_rules.specs.Numbers.{bad_registers_lem, bad_numbers_lem}
 use Rattle.mapper_laws.specs.declared.Mapping.{Mapping}
 use Rattle.mapper_laws.specs.Mapping.{permission_of_lem, mapping_of}

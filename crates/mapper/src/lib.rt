@@ -1,4 +1,6 @@
 // The stage 2 map over a lent image and a lent arena. No refusal changes either: all that may be refused is known before the first store.
+#![tactic(auto)]
+
 ghost use Rattle.std.specs.Prelude.{◌≡◌, ◌+◌, ◌*◌, ◌^◌, ◌≤◌, negsuc, length};
 ghost use Rattle.pool_state.specs.Lent.{was, is};
 ghost use Rattle.image_parts.specs.Layout.{current, image_size_lem};
@@ -26,7 +28,7 @@ const MAPPED: i64 = 0;
 // The bytes of one slice into another of its length.
 fn copy_bytes(from: &[u8], to: &mut [u8])
     requires { length from.now ≡ length to.old }
-    ensures { is to ≡ was from }
+    ensures { is to ≡ from.now }
 {
     let mut i: usize = 0;
     while i < to.len() {
@@ -76,8 +78,7 @@ fn map_lying(image: &mut [u8], arena: &mut [u64], first: u64, top: Top, q: Mappi
 
 // `map_size` bytes from `intermediate_physical_address` on are mapped to those from `physical_address` on, in the tables that `vttbr` and `vtcr` name.
 // The arena is the memory of the allocator in the image; its first byte has the address `base`.
-#[unsafe(no_mangle)]
-pub extern "C" fn cinghjalofa_map_address_stage2(
+pub fn cinghjalofa_map_address_stage2(
     image: &mut [u8],
     arena: &mut [u64],
     base: u64,

@@ -1,5 +1,7 @@
 // The words of a lent arena, by their numbers counted from address 0; `first` is the number of the arena's first word. Where the arena
 // has no word, 0 is read and nothing is stored.
+#![tactic(auto)]
+
 ghost use Rattle.std.specs.Prelude.{◌≡◌, ◌*◌};
 ghost use Rattle.mapper_laws.specs.Tree.{page_of};
 ghost use Rattle.mapper_laws.specs.Arena.{shows, stored, cleared};

@@ -10,7 +10,7 @@ use native.Mathlib.Numerals.{add-one}
 use Rattle.rules_laws.proofs.Lists.{if}
 use Rattle.mapper_rules.specs.Walk.{span, is_table_lem, is_block_lem}
 use Rattle.mapper_laws.specs.declared.Mapping.{Mapping}
-use Rattle.mapper_laws.specs.Tree.{Entry, Ends, Leads, table, page_of, leads_to, some}
+use Rattle.mapper_laws.specs.Tree.{Entry, page_of, leads_to, some}
 use Rattle.mapper_laws.specs.Mapping.{meets, fits, opens, blocked}
 use Rattle.mapper_laws.specs.Arena.{shows}
 use Rattle.mapper_words.specs.Heights.{capped}

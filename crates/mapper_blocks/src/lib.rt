@@ -1,4 +1,6 @@
 // Whether a block stands where a mapping wants a table.
+#![tactic(auto)]
+
 ghost use Rattle.std.specs.Prelude.{◌||◌, ◌≡◌, ◌+◌, ◌*◌, ◌^◌, ◌≤◌};
 ghost use Rattle.mapper_rules.specs.Walk.{span};
 ghost use Rattle.mapper_laws.specs.Mapping.{opens};
@@ -22,7 +24,7 @@ pub fn word_opens(q: Mapping, height: u64, e: u64) -> bool
 }
 
 // The entry d at a height, and all that it leads to; `found` tells whether a block was found before.
-#[cycle(block_at_block_in)]
+#[cycle(blocks)]
 fn block_at(arena: &[u64], first: u64, q: Mapping, height: u64, e: u64, d: u64, found: bool) -> bool
     requires { (height ≤ 3) × (e + span height ≤ 2 ^ 50) }
     ensures { result ≡ (found || blocked_at q first arena.now height e d) }
@@ -51,7 +53,7 @@ fn block_at(arena: &[u64], first: u64, q: Mapping, height: u64, e: u64, d: u64, 
 }
 
 // The entries in the `count` words from `at` on, whose inputs begin at e.
-#[cycle(block_at_block_in)]
+#[cycle(blocks)]
 pub fn block_in(
     arena: &[u64],
     first: u64,

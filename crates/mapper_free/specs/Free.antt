@@ -1,9 +1,9 @@
 -- The free ranges of the allocator in an image, by address, and the pages that they touch. Assumes nothing.
-use Rattle.std.specs.Prelude.{Bool, true, false, ◌&&◌, ◌||◌, List, map, ◌≡◌, ℕ, zero, suc, ◌+◌, ◌/◌, ◌<◌, leb, ltb, length, get_or}
-use Rattle.rules.specs.Rules.{Range, start_of}
+use Rattle.std.specs.Prelude.{Bool, true, false, ◌&&◌, ◌||◌, List, ◌≡◌, ℕ, zero, suc, ◌+◌, ◌/◌, ◌<◌, leb, ltb, length, get_or}
+use Rattle.rules.specs.Rules.{Range}
 use Rattle.pool_state.specs.Shown.{pool}
 use Rattle.pool_state.specs.Sound.{book_of}
-use Rattle.pool_listing.specs.Listing.{last_of, Lists}
+use Rattle.pool_listing.specs.Listing.{Lists}
 use Rattle.pool_listing.specs.declared.Listed.{Listed}
 use Rattle.pool_listing.specs.declared.Listed.TheVariants.{Short}
 use Rattle.image_parts.specs.Layout.{current}

@@ -1,4 +1,6 @@
 // The free ranges of the allocator in an image: listed, held against the bytes of an arena, and their pages marked.
+#![tactic(auto)]
+
 ghost use Rattle.std.specs.Prelude.{◌&&◌, ◌≡◌, ◌/◌, ◌+◌, ◌-◌, ◌≤◌, leb, ltb, length};
 ghost use Rattle.pool_state.specs.Lent.{was, is};
 ghost use Rattle.mapper_free.specs.Free.{Frees, all_inside, touches, Adds};
@@ -11,7 +13,7 @@ const PAGE: u64 = 4096;
 
 // The first and last bytes of the free ranges, by address, into two slices; Short also where this is the image of no sound state.
 pub fn free_ranges(image: &[u8], starts: &mut [u64], lasts: &mut [u64]) -> Listed
-    ensures { Frees (was image) (was starts) (was lasts) result (is starts) (is lasts) }
+    ensures { Frees image.now (was starts) (was lasts) result (is starts) (is lasts) }
 {
     let mut lowest: u64 = 0;
     let mut total: u64 = 0;
@@ -60,7 +62,7 @@ fn range_inside(low: u64, high: u64, start: u64, last: u64, all: bool) -> bool
 // All of the first `count` ranges do.
 pub fn ranges_inside(low: u64, high: u64, starts: &[u64], lasts: &[u64], count: usize) -> bool
     requires { (count ≤ length starts.now) × (count ≤ length lasts.now) }
-    ensures { result ≡ all_inside low high (was starts) (was lasts) count }
+    ensures { result ≡ all_inside low high starts.now lasts.now count }
 {
     let mut all = true;
     let mut i: usize = 0;
@@ -114,7 +116,7 @@ fn mark_pages(marks: &mut [bool], lo: u64, from: u64, to: u64)
 // The marks of the pages that the first `count` ranges touch.
 pub fn mark_free(marks: &mut [bool], lo: u64, starts: &[u64], lasts: &[u64], count: usize)
     requires { (count ≤ length starts.now) × (count ≤ length lasts.now) }
-    ensures { Adds lo (touches (was starts) (was lasts) count) (was marks) (is marks) }
+    ensures { Adds lo (touches starts.now lasts.now count) (was marks) (is marks) }
 {
     let mut i: usize = 0;
     while i < count {

@@ -10,6 +10,7 @@ use Rattle.mapper_laws.specs.Tree.{Entry, Ends, Leads, joined, tables, In, Once}
 use Rattle.mapper_laws.proofs.Apart.{Has, Apart}
 
 pub in-l : (p : ℕ) (a b : List ℕ) → In p a → In p (a ++ b)
+in-l p [] b x' = elim x' [ ]
 in-l p (x ∷ a) b (inl e) = inl e
 in-l p (x ∷ a) b (inr i) = inr (in-l p a b i)
 

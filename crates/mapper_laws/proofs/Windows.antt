@@ -13,6 +13,7 @@ use Rattle.mapper_laws.specs.Marks.{in_window, part, Marks, marking, fine, marks
 
 in-part : (lo w p : ℕ) (l : List ℕ) → T (in_window lo w p) → In p l → In p (part lo w l)
 unfolding part
+in-part lo w p [] t x'' = elim x'' [ ]
 in-part lo w p (x ∷ l) t (inl e) = if (in_window lo w x) (λ m. In p m) (λ _. inl e) (λ f. absurd (T-no (in_window lo w x) f (subst (λ (y : ℕ). T (in_window lo w y)) e t)))
 in-part lo w p (x ∷ l) t (inr i) = if (in_window lo w x) (λ m. In p m) (λ _. inr (in-part lo w p l t i)) (λ _. in-part lo w p l t i)
 

@@ -1,16 +1,15 @@
 -- Ranges that are listed in two slices, and what lies on each way through. Assumes nothing.
 use mathlib.Core.Path.{◌≡◌, refl, sym, ◌∙◌, ap}
-use mathlib.Core.Bool.{Bool, true, false, not, cond, ◌&&◌, ◌||◌}
+use mathlib.Core.Bool.{Bool, true, false, ◌&&◌}
 use mathlib.Core.List.{List, [], ◌∷◌, ◌++◌, map}
-use Prim.Native.Nat.{ℕ, zero, suc, ◌+◌, ◌/◌, ◌≤◌, ◌<◌}
+use Prim.Native.Nat.{ℕ, zero, suc, ◌/◌, ◌≤◌, ◌<◌}
 use native.Mathlib.Omega.{arith}
 use native.Mathlib.Nat.{le_of_suc-le-suc}
-use lib.Dec.{leb, ltb}
 use lib.ListN.{length, get_or, drop, length-map, replicate, length-replicate}
 use borrow.Author.Tests.{le-leb, lt-leb, le-ltb}
 use Rattle.rules.specs.Rules.{Range, start_of}
 use Rattle.pool_state.specs.Shown.{pool}
-use Rattle.pool_listing.specs.Listing.{last_of, short, listed_of, shown, written, Lists}
+use Rattle.pool_listing.specs.Listing.{last_of, short, listed_of, shown}
 use Rattle.pool_listing.specs.declared.Listed.{Listed}
 use Rattle.pool_listing.specs.declared.Listed.TheVariants.{Count, Short}
 use Rattle.image_parts.specs.Layout.{current}
@@ -19,7 +18,6 @@ use Rattle.pool_listing.proofs.Walk.{few}
 use Rattle.mapper_free.proofs.Ranges.{read-ordered}
 use Rattle.linked_lists.proofs.Laws.{true≢false}
 use Rattle.mapper_rules.specs.Numbers.{output_top}
-use Rattle.mapper_laws.specs.Tree.{some}
 use Rattle.mapper_blocks.proofs.Blocks.{some_same}
 use Rattle.mapper_free.specs.Free.{chain_in, Frees, every, inside_of, all_inside, touches_at, touches}
 use Rattle.mapper_tables.specs.declared.Top.{Top}

@@ -4,14 +4,13 @@ use mathlib.Core.Bool.{Bool, true, false, not, cond, ◌&&◌, ◌||◌}
 use Prim.Native.Nat.{ℕ, suc, ◌+◌, ◌-◌, ◌*◌, ◌/◌, ◌%◌, ◌^◌, ◌≤◌, ◌<◌}
 use native.Mathlib.Omega.{arith}
 use native.Mathlib.Nat.{mod-lt, mod-eq_of_lt, one-mul}
-use lib.Dec.{T, leb, ltb, eqb, leb→le, ltb→lt, eqb→eq, lit<}
+use lib.Dec.{T, leb, ltb, eqb, leb→le, eqb→eq, lit<}
 use borrow.Author.Tests.{lt-ltb, le-ltb, ltb-false}
 use Rattle.rules_laws.proofs.Lists.{and_l, and_r}
-use Rattle.mapper_rules.specs.Walk.{span, input_top, top_height, top_table, sl0, t0sz}
+use Rattle.mapper_rules.specs.Walk.{span, top_height, top_table, sl0, t0sz}
 use Rattle.mapper_rules.specs.Numbers.{bad_level_lem, top_entries, top_bytes_lem, bad_registers_lem, output_top}
 use Rattle.mapper_laws.proofs.Registers.{every, of_fields, entries, sized}
 use Rattle.mapper_laws.proofs.Tests.{not-or-l}
-use Rattle.mapper_tables.specs.declared.Top.{Top}
 use Rattle.mapper_lies.specs.Lies.{top_of, top_byte_lem}
 
 -- by SL0 and T0SZ

@@ -1,6 +1,7 @@
 // Whether all that a map rests on lies in the arena: the free bytes of a sound state, and the tables, none of them twice or on free bytes.
+#![tactic(auto)]
+
 ghost use Rattle.std.specs.Prelude.{not, ◌&&◌, ◌≡◌, ◌+◌, ◌/◌, ◌^◌, ◌≤◌, T, length};
-ghost use Rattle.pool_state.specs.Lent.{was};
 ghost use Rattle.mapper_rules.specs.Numbers.{bad_registers_lem};
 ghost use Rattle.mapper_free.specs.Free.{all_inside, touches};
 ghost use Rattle.mapper_tables.specs.Apart.{apart};
@@ -68,7 +69,7 @@ fn ranges_lie(
     count: usize,
 ) -> bool
     requires { (base ≤ high) × (high ≤ 2 ^ 48) × (top.page + top.pages ≤ 2 ^ 40) × (top.word + top.entries ≤ 2 ^ 50) × (count ≤ length starts.now) × (count ≤ length lasts.now) }
-    ensures { result ≡ (all_inside base high (was starts) (was lasts) count && apart (base / 4096) (high / 4096) (touches (was starts) (was lasts) count) (reached_in (base / 8) (was arena) top)) }
+    ensures { result ≡ (all_inside base high starts.now lasts.now count && apart (base / 4096) (high / 4096) (touches starts.now lasts.now count) (reached_in (base / 8) arena.now top)) }
 {
     if ranges_inside(base, high, starts, lasts, count) {
         return tables_apart(
@@ -88,7 +89,7 @@ fn ranges_lie(
 // The image, its free bytes and the tables.
 pub fn all_lies(image: &[u8], arena: &[u64], base: u64, top: Top) -> bool
     requires { (top.page + top.pages ≤ 2 ^ 40) × (top.word + top.entries ≤ 2 ^ 50) }
-    ensures { result ≡ lies base top (was image) (was arena) }
+    ensures { result ≡ lies base top image.now arena.now }
 {
     if TOP < base {
         return false;

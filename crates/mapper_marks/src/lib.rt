@@ -1,5 +1,7 @@
 // Tables that are reached, each marked where it is met: one that was marked before, that lies outside the arena, or that is one too many is told.
 // The marks are those of one window of pages; of a page outside of it there is none.
+#![tactic(auto)]
+
 ghost use Rattle.std.specs.Prelude.{true, ◌≡◌, ◌+◌, ◌^◌, ◌≤◌};
 ghost use Rattle.pool_state.specs.Lent.{was, is};
 ghost use Rattle.mapper_marks.specs.Marking.{is_marked_lem, marked, run, meet, meet_all, tables_at, tables_in};
@@ -8,7 +10,7 @@ use mapper_arena::{TABLE_WORDS, word_at};
 use mapper_words::{is_table, table_page};
 
 // The pages of the arena, from the lowest to before `past`, and the first of the window.
-#[derive(Drop)]
+#[derive(Clone, Copy)]
 pub struct Limits {
     pub lowest: u64,
     pub past: u64,
@@ -16,7 +18,7 @@ pub struct Limits {
 }
 
 pub fn is_marked(marks: &[bool], lo: u64, page: u64) -> bool
-    ensures { result ≡ is_marked_lem lo (was marks) page }
+    ensures { result ≡ is_marked_lem lo marks.now page }
 {
     if page < lo {
         return false;
@@ -63,7 +65,7 @@ pub fn meet_page(marks: &mut [bool], left: &mut u64, limits: Limits, page: u64) 
 }
 
 // The table that a word leads to, and all below it; `fine` tells whether all before were.
-#[cycle(mark_at_mark_in)]
+#[cycle(marks)]
 fn mark_at(
     arena: &[u64],
     first: u64,
@@ -74,7 +76,7 @@ fn mark_at(
     d: u64,
     fine: bool,
 ) -> bool
-    ensures { run result (is left) (is marks) ≡ meet_all limits (tables_at first (was arena) height d) (run fine (was left) (was marks)) }
+    ensures { run result (is left) (is marks) ≡ meet_all limits (tables_at first arena.now height d) (run fine (was left) (was marks)) }
 {
     if fine {
         if height == 0 {
@@ -101,7 +103,7 @@ fn mark_at(
 }
 
 // The tables that the `count` words from `at` on lead to.
-#[cycle(mark_at_mark_in)]
+#[cycle(marks)]
 pub fn mark_in(
     arena: &[u64],
     first: u64,
@@ -114,7 +116,7 @@ pub fn mark_in(
     fine: bool,
 ) -> bool
     requires { at + count ≤ 2 ^ 50 }
-    ensures { run result (is left) (is marks) ≡ meet_all limits (tables_in first (was arena) height at count) (run fine (was left) (was marks)) }
+    ensures { run result (is left) (is marks) ≡ meet_all limits (tables_in first arena.now height at count) (run fine (was left) (was marks)) }
 {
     let mut all = fine;
     let mut j: u64 = 0;

@@ -1,4 +1,6 @@
 // The numbers of a map that are refused, line by line as request T-09 has them. No sum is made that may not fit.
+#![tactic(auto)]
+
 ghost use Rattle.std.specs.Prelude.{◌≡◌, ◌+◌, ◌-◌, ltb};
 ghost use Rattle.mapper_rules.specs.Walk.{input_top};
 ghost use Rattle.mapper_rules.specs.Numbers.{outside, bad_level_lem, top_bytes_lem, bad_registers_lem, bad_range_lem, bad_numbers_lem};

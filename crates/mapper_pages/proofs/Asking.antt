@@ -25,7 +25,7 @@ use Rattle.calls.specs.Calls.{address_from}
 use Rattle.c_over.specs.CCalls.{Returned, returned, call_over_lem}
 use Rattle.mapper_rules.specs.Walk.{span, is_table_lem}
 use Rattle.mapper_laws.specs.declared.Mapping.{Mapping}
-use Rattle.mapper_laws.specs.Tree.{Entry, Ends, Leads, page_of, leads_to, sum}
+use Rattle.mapper_laws.specs.Tree.{Entry, Ends, page_of, leads_to, sum}
 use Rattle.mapper_laws.specs.Mapping.{opens, wants}
 use Rattle.mapper_laws.specs.Arena.{shows}
 use Rattle.mapper_pages.specs.Pages.{page_from, Supply, supply, asked, taken, wants_at, wants_in}

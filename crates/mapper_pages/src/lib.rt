@@ -1,4 +1,6 @@
 // Table pages from the page door, over a lent image: one, and all that a mapping wants, in its order.
+#![tactic(auto)]
+
 ghost use Rattle.std.specs.Prelude.{◌≡◌, ◌+◌, ◌*◌, ◌^◌, ◌≤◌};
 ghost use Rattle.pool_state.specs.Lent.{was, is};
 ghost use Rattle.calls.specs.Calls.{address_from};
@@ -57,7 +59,7 @@ fn ask_page(image: &mut [u8], enough: bool) -> bool
 
 // The word of number w, or 0 in a table that is to be cleared.
 fn word_in(arena: &[u64], first: u64, fresh: bool, w: u64) -> u64
-    ensures { result ≡ word_in first (was arena) fresh w }
+    ensures { result ≡ word_in first arena.now fresh w }
 {
     if fresh {
         return 0;
@@ -67,7 +69,7 @@ fn word_in(arena: &[u64], first: u64, fresh: bool, w: u64) -> u64
 
 // The pages that a mapping wants for the entry d at a height, and for all that it leads to; `enough` tells whether
 // all were to be had before.
-#[cycle(ask_at_ask_in)]
+#[cycle(pages)]
 fn ask_at(
     arena: &[u64],
     first: u64,
@@ -79,7 +81,7 @@ fn ask_at(
     enough: bool,
 ) -> bool
     requires { (height ≤ 3) × (e + span height ≤ 2 ^ 50) }
-    ensures { supply result (is image) ≡ taken (wants_at q first (was arena) height e d) (supply enough (was image)) }
+    ensures { supply result (is image) ≡ taken (wants_at q first arena.now height e d) (supply enough (was image)) }
 {
     if height == 0 {
         return enough;
@@ -121,7 +123,7 @@ fn ask_at(
 }
 
 // Those for the entries in the `count` words from `at` on, whose inputs begin at e; in a table that is to be cleared all of them are 0.
-#[cycle(ask_at_ask_in)]
+#[cycle(pages)]
 pub fn ask_in(
     arena: &[u64],
     first: u64,
@@ -135,7 +137,7 @@ pub fn ask_in(
     enough: bool,
 ) -> bool
     requires { (height ≤ 3) × (e + count * span height ≤ 2 ^ 50) × (at + count ≤ 2 ^ 50) }
-    ensures { supply result (is image) ≡ taken (wants_in q first (was arena) fresh height e at count) (supply enough (was image)) }
+    ensures { supply result (is image) ≡ taken (wants_in q first arena.now fresh height e at count) (supply enough (was image)) }
 {
     let bytes = span_of(height);
     let mut had = enough;

@@ -1,4 +1,6 @@
 // The stores of a mapping, in the order of MiniVisor's module, with pages from the door over a lent image.
+#![tactic(auto)]
+
 ghost use Rattle.std.specs.Prelude.{◌≡◌, ◌+◌, ◌*◌, ◌^◌, ◌≤◌};
 ghost use Rattle.pool_state.specs.Lent.{was, is};
 ghost use Rattle.mapper_rules.specs.Walk.{span};
@@ -21,7 +23,7 @@ fn make_table(image: &mut [u8], arena: &mut [u64], first: u64, w: u64) -> u64
 }
 
 // The entry in the word of number w, at a height, whose inputs begin at e.
-#[cycle(store_at_store_in)]
+#[cycle(stores)]
 fn store_at(
     image: &mut [u8],
     arena: &mut [u64],
@@ -56,7 +58,7 @@ fn store_at(
 }
 
 // The entries in the `count` words from `at` on, one after another.
-#[cycle(store_at_store_in)]
+#[cycle(stores)]
 pub fn store_in(
     image: &mut [u8],
     arena: &mut [u64],

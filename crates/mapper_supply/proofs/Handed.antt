@@ -58,6 +58,7 @@ record Placed (c : List Range) (r : Range) : Type 0 where
   last : get_or (map last_of c) at 0 ≡ r.last
 
 placed : (c : List Range) (r : Range) → rules.In r c → Placed c r
+placed [] r i = elim i [ ]
 placed (q ∷ c) r (inl e) = record { at = 0; few = omega arith; start = ap start_of (sym e); last = ap last_of (sym e) }
 placed (q ∷ c) r (inr i) = let p = placed c r i in record { at = suc p.at; few = let h = p.few in omega arith; start = p.start; last = p.last }
 

@@ -18,7 +18,6 @@ use Rattle.pool_state.specs.State.{state_of}
 use Rattle.pool_state.specs.Sound.{book_of}
 use Rattle.pool_state.specs.declared.MemoryAllocator.{MemoryAllocator}
 use Rattle.account_state.specs.Account.{account, is_sound_lem}
-use Rattle.account_state.specs.declared.Account.{Account}
 use Rattle.account_state.specs.declared.Entered.{Entered}
 use Rattle.account_state.proofs.Exact.{passes-sound}
 use Rattle.calls.specs.Calls.{number_of, address_of, answer_of, voucher_of, is_accepted, signed_of, address_from}

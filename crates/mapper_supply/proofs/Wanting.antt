@@ -12,7 +12,6 @@ use Rattle.rules.specs.Rules.{Range, Book, Answer, total, any, find, fit, fits, 
 use Rattle.rules_laws.proofs.Lists.{if}
 use Rattle.pool_state.specs.Shown.{pool}
 use Rattle.calls.specs.Calls.{answer_of, signed_of, number_from}
-use Rattle.image_parts.specs.Layout.{current}
 use Rattle.c_over.specs.CCalls.{Returned, finished}
 use Rattle.mapper_pages.specs.Pages.{page_from, supply, asked, taken}
 use Rattle.mapper_supply.proofs.Taking.{one}

@@ -1,9 +1,8 @@
 -- Pages that lie inside, and how many there are if none comes twice. Assumes nothing.
-use mathlib.Core.Path.{◌≡◌, refl, sym, ◌∙◌, ap, subst}
-use mathlib.Core.Logic.{◌≢◌, inl, inr}
-use mathlib.Core.Bool.{Bool, true, false, cond}
+use mathlib.Core.Path.{◌≡◌, refl, sym, ap, subst}
+use mathlib.Core.Logic.{inl, inr}
 use mathlib.Core.List.{List, [], ◌∷◌}
-use Prim.Native.Nat.{ℕ, suc, ◌+◌, ◌-◌, ◌≤◌, ◌<◌}
+use Prim.Native.Nat.{ℕ, suc, ◌-◌, ◌≤◌, ◌<◌}
 use native.Mathlib.Omega.{arith}
 use lib.Dec.{T, leb, ltb, leb→le, ltb→lt}
 use lib.ListN.{length}
@@ -16,6 +15,7 @@ use Rattle.mapper_tables.specs.Apart.{inside, inside_all}
 
 pub inside-in : (low high : ℕ) (l : List ℕ) → T (inside_all low high l) → (p : ℕ) → In p l → T (inside low high p)
 unfolding inside_all
+inside-in low high [] t p i = elim i [ ]
 inside-in low high (x ∷ l) t p (inl e) = subst (λ (y : ℕ). T (inside low high y)) (sym e) (and_l (inside low high x) (inside_all low high l) t)
 inside-in low high (x ∷ l) t p (inr i) = inside-in low high l (and_r (inside low high x) (inside_all low high l) t) p i
 
@@ -63,6 +63,7 @@ in-part→ lo w p (x ∷ l) i = if (in_window lo w x) (λ (k : List ℕ). In p k
 
 pub in-part← : (lo w p : ℕ) (l : List ℕ) → T (in_window lo w p) → In p l → In p (part lo w l)
 unfolding part
+in-part← lo w p [] t i = elim i [ ]
 in-part← lo w p (x ∷ l) t (inl e) = if (in_window lo w x) (λ (k : List ℕ). T (in_window lo w x) → In p k) (λ _ _. inl e) (λ n y. absurd (T-no (in_window lo w x) n y)) (subst (λ (y : ℕ). T (in_window lo w y)) e t)
 in-part← lo w p (x ∷ l) t (inr i) = if (in_window lo w x) (λ (k : List ℕ). In p k) (λ _. inr (in-part← lo w p l t i)) (λ _. in-part← lo w p l t i)
 

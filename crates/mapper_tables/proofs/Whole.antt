@@ -1,19 +1,19 @@
 -- Pages that lie apart in every window lie apart. Assumes nothing.
-use mathlib.Core.Path.{◌≡◌, refl, sym, ◌∙◌, ap}
+use mathlib.Core.Path.{◌≡◌, refl, ◌∙◌, ap}
 use mathlib.Core.Logic.{inl, inr}
-use mathlib.Core.Bool.{Bool, true, false, not, ◌&&◌}
+use mathlib.Core.Bool.{Bool, true, ◌&&◌}
 use mathlib.Core.List.{List}
-use Prim.Native.Nat.{ℕ, zero, suc, ◌+◌, ◌-◌, ◌*◌, ◌/◌, ◌≤◌, ◌<◌}
+use Prim.Native.Nat.{ℕ, zero, suc, ◌+◌, ◌-◌, ◌*◌, ◌/◌, ◌<◌}
 use native.Mathlib.Omega.{arith}
 use native.Mathlib.Numerals.{add-one}
 use lib.Dec.{T, leb, ltb, eqb, leb→le, ltb→lt, le→leb, lt→ltb, eqb→eq}
 use lib.ListN.{length}
 use Rattle.rules_laws.proofs.Lists.{and_i, and_l, and_r, same_test, T-or-not, neq}
-use Rattle.mapper_laws.specs.Tree.{In, Once}
+use Rattle.mapper_laws.specs.Tree.{In}
 use Rattle.mapper_laws.specs.Marks.{in_window, part, Marks, fine}
 use Rattle.mapper_laws.proofs.Windows.{Fine, fine→, fine←}
 use Rattle.mapper_free.specs.Free.{every}
-use Rattle.mapper_tables.specs.Apart.{inside, inside_all, apart, window, apart_in, apart_up_to, windows}
+use Rattle.mapper_tables.specs.Apart.{inside_all, apart, window, apart_in, apart_up_to, windows}
 use Rattle.mapper_tables.proofs.Pages.{inside-in, few-pages, in-part→, in-part←, once-part, once_by}
 
 every_one : (n : ℕ) (f : ℕ → Bool) → T (every n f) → (i : ℕ) → i < n → T (f i)

@@ -1,6 +1,6 @@
 -- Pages of an arena of which none comes twice, and none is otherwise in use; in one window at a time. Assumes nothing.
 use Rattle.std.specs.Prelude.{Bool, true, ◌&&◌, List, [], ◌∷◌, ℕ, ◌+◌, ◌-◌, ◌*◌, ◌/◌, leb, ltb, length}
-use Rattle.mapper_laws.specs.Marks.{part, Marks, fine}
+use Rattle.mapper_laws.specs.Marks.{part, fine}
 use Rattle.mapper_free.specs.Free.{every}
 
 -- the pages from low to before high

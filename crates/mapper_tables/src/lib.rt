@@ -1,5 +1,7 @@
 // The tables that are reached from a top table: all of them in the arena, none twice, and none on free bytes. Marks for one window of pages at a
 // time tell, so that no array grows with the arena.
+#![tactic(auto)]
+
 ghost use Rattle.std.specs.Prelude.{true, ◌&&◌, ◌≡◌, ◌+◌, ◌*◌, ◌^◌, ◌≤◌, length};
 ghost use Rattle.pool_state.specs.Lent.{was, is};
 ghost use Rattle.mapper_marks.specs.Marking.{run, meet_all};
@@ -13,7 +15,7 @@ use mapper_marks::{Limits, mark_in, meet_page};
 pub const WINDOW: usize = 4096;
 
 // The top table: its first page and how many it has, the number of its first word, its entries, and their height.
-#[derive(Drop)]
+#[derive(Clone, Copy)]
 pub struct Top {
     pub page: u64,
     pub pages: u64,
@@ -60,7 +62,7 @@ fn window_apart(
     fine: bool,
 ) -> bool
     requires { (low ≤ high) × (top.page + top.pages ≤ 2 ^ 40) × (top.word + top.entries ≤ 2 ^ 50) × (count ≤ length starts.now) × (count ≤ length lasts.now) }
-    ensures { result ≡ (fine && apart_in low high (touches (was starts) (was lasts) count) (reached_in first (was arena) top) lo) }
+    ensures { result ≡ (fine && apart_in low high (touches starts.now lasts.now count) (reached_in first arena.now top) lo) }
 {
     if fine {
         let limits = Limits {
@@ -99,7 +101,7 @@ pub fn tables_apart(
     count: usize,
 ) -> bool
     requires { (low ≤ high) × (high ≤ 2 ^ 40) × (top.page + top.pages ≤ 2 ^ 40) × (top.word + top.entries ≤ 2 ^ 50) × (count ≤ length starts.now) × (count ≤ length lasts.now) }
-    ensures { result ≡ apart low high (touches (was starts) (was lasts) count) (reached_in first (was arena) top) }
+    ensures { result ≡ apart low high (touches starts.now lasts.now count) (reached_in first arena.now top) }
 {
     let windows = (high - low) / WINDOW as u64 + 1;
     let mut fine = true;

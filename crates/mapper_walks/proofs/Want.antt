@@ -13,7 +13,7 @@ use Rattle.image_reading.specs.Reading.{state_in_lem}
 use Rattle.mapper_pages.specs.Pages.{page_from, supply, taken, wants_in}
 use Rattle.mapper_supply.proofs.Reading.{read_first}
 use Rattle.mapper_supply.proofs.Wanting.{Wanting, want-numbers}
-use Rattle.mapper.specs.Maps.{Left, left, tried, stored, finished}
+use Rattle.mapper.specs.Maps.{left, tried, stored, finished}
 use Rattle.mapper.specs.Refusals.{WantAnswered}
 use Rattle.mapper_walks.proofs.Right.{lies→}
 

@@ -1,5 +1,7 @@
 // Words of tables, and which of them a mapping asks for. A height is the number of levels below: 0 at level 3, 3 at level 0, and any
 // number above 3 is taken as 3. Sums that do not fit into 64 bits are cut, where a word is made, and never made elsewhere.
+#![tactic(auto)]
+
 ghost use Rattle.std.specs.Prelude.{◌≡◌, ◌-◌, ◌%◌, ◌^◌};
 ghost use Rattle.mapper_rules.specs.Walk.{span, is_table_lem, is_block_lem};
 ghost use Rattle.mapper_laws.specs.Tree.{page_of};
