@@ -1,9 +1,5 @@
 -- Where the audit of a part has led. n is the number of records. Assumes nothing.
-use Prim.Native.Nat.{ℕ, ◌+◌, ◌≤◌}
-use mathlib.Core.List.{List, []}
-use mathlib.Core.Path.{◌≡◌, sym, subst}
-use lib.ListN.{length}
-use native.Mathlib.Omega.{arith}
+use Rattle.std.proofs.Common.{◌≡◌, ℕ, ◌+◌, ◌≤◌, List, [], sym, subst, length, arith}
 use Rattle.linked_lists.specs.Links.{none}
 use Rattle.pool_state.specs.Sound.{SoundState}
 use Rattle.pool_state.specs.declared.MemoryAllocator.{MemoryAllocator}

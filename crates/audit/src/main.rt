@@ -1,4 +1,6 @@
 // The program that audits a journal: standard input is read in parts, and one line says what was found. The state is ten lent fields.
+#![tactic(auto)]
+
 ghost use Rattle.std.specs.Prelude.{◌≡◌, ◌+◌, ◌<◌, ◌≤◌, ◌^◌, length};
 ghost use Rattle.pool_state.specs.Shown.{pool};
 ghost use Rattle.pool_state.specs.Sound.{SoundState};
@@ -8,13 +10,12 @@ ghost use Rattle.audit.specs.Sittings.{Seated, Ready};
 use journal_audit::{Stand, Stop, Verdict, audit_part, verdict_of};
 use journal_blocks::VERSION;
 use journal_prints::{report, shift};
-use libc::STDIN_FILENO;
 use pool_state::{LISTS, NONE, POOL};
-use streams::read_some;
+use streams::{Streams, read_some};
 
 // How many calls have agreed, how many bytes at the front of the buffer are still to be judged, and whether a line was printed or a call
 // has failed.
-#[derive(Drop)]
+#[derive(Clone, Copy)]
 pub struct Sitting {
     pub index: u64,
     pub held: usize,
@@ -31,7 +32,7 @@ fn wants_more(stop: Stop) -> bool {
 }
 
 // What was not used goes to the front, and more is read behind it. At the end of the input the audit is reported.
-fn read_on(total: u64, done: Stand, held: usize, buf: &mut [u8]) -> Sitting
+fn read_on(mut streams: Streams, total: u64, done: Stand, held: usize, buf: &mut [u8]) -> Sitting
     requires { (done.used ≤ held) × (held ≤ length buf.old) }
     ensures { Seated result (is buf) done.index }
 {
@@ -39,7 +40,8 @@ fn read_on(total: u64, done: Stand, held: usize, buf: &mut [u8]) -> Sitting
     let rest = shift(buf, done.used, held);
     let end = buf.len();
     let read = read_some(
-        STDIN_FILENO,
+        &mut streams.input,
+        &mut streams.errors,
         &mut buf[rest..end],
         b"failed: the journal cannot be read",
     );
@@ -56,7 +58,7 @@ fn read_on(total: u64, done: Stand, held: usize, buf: &mut [u8]) -> Sitting
             used: 0,
             stop: Stop::More,
         };
-        report(verdict_of(last, total, rest));
+        report(streams, verdict_of(last, total, rest));
         return Sitting {
             index: index,
             held: 0,
@@ -72,6 +74,7 @@ fn read_on(total: u64, done: Stand, held: usize, buf: &mut [u8]) -> Sitting
 
 // The blocks in the buffer are judged.
 fn turn(
+    streams: Streams,
     total: &mut u64,
     first: &mut u16,
     heads: &mut [u16; LISTS],
@@ -106,10 +109,10 @@ fn turn(
     );
     let stop = done.stop;
     if wants_more(stop) {
-        return read_on(*total, done, held, buf);
+        return read_on(streams, *total, done, held, buf);
     }
     let index = done.index;
-    report(verdict_of(done, *total, held));
+    report(streams, verdict_of(done, *total, held));
     Sitting {
         index: index,
         held: 0,
@@ -119,6 +122,7 @@ fn turn(
 
 // A proved loop has to end: the turns are more than any file takes.
 fn audit_all(
+    streams: Streams,
     total: &mut u64,
     first: &mut u16,
     heads: &mut [u16; LISTS],
@@ -143,14 +147,14 @@ fn audit_all(
     let mut turns: u64 = 140737488355328;
     while !s.over && turns > 0 {
         s = turn(
-            total, first, heads, start, end, enabled, previous, next, lprev, lnext, s, buf,
+            streams, total, first, heads, start, end, enabled, previous, next, lprev, lnext, s, buf,
         );
         turns -= 1;
     }
 }
 
 // The calls are replayed from empty.
-fn audit_from(buf: &mut [u8], count: usize)
+fn audit_from(streams: Streams, buf: &mut [u8], count: usize)
     requires { (count ≤ length buf.old) × (length buf.old ≡ 65536) }
 {
     let mut total: u64 = 0;
@@ -164,6 +168,7 @@ fn audit_from(buf: &mut [u8], count: usize)
     let mut lprev = [NONE; POOL];
     let mut lnext = [NONE; POOL];
     audit_all(
+        streams,
         &mut total,
         &mut first,
         &mut heads,
@@ -180,30 +185,36 @@ fn audit_from(buf: &mut [u8], count: usize)
 }
 
 // The first bytes are read: a version byte, or nothing is to be audited.
-fn open(buf: &mut [u8], count: usize)
+fn open(streams: Streams, buf: &mut [u8], count: usize)
     requires { (count ≤ length buf.old) × (length buf.old ≡ 65536) }
 {
     if count == 0 {
-        report(Verdict::NoVersion);
+        report(streams, Verdict::NoVersion);
         return;
     }
     if buf[0] != VERSION {
-        report(Verdict::NoVersion);
+        report(streams, Verdict::NoVersion);
         return;
     }
     let first = shift(buf, 1, count);
-    audit_from(buf, first);
+    audit_from(streams, buf, first);
 }
 
-fn main() {
-    let mut buf = io::large_buffer();
+fn main(rt: HostRuntime) {
+    let mut streams = Streams {
+        input: rt.stdin(),
+        output: rt.stdout(),
+        errors: rt.stderr(),
+    };
+    let mut buf = [0u8; 65536];
     let read = read_some(
-        STDIN_FILENO,
+        &mut streams.input,
+        &mut streams.errors,
         &mut buf,
         b"failed: the journal cannot be read",
     );
     if read.failed {
         return;
     }
-    open(&mut buf, read.bytes);
+    open(streams, &mut buf, read.bytes);
 }

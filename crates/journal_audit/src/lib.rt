@@ -1,9 +1,11 @@
 // The audit of a journal: its calls are replayed from empty, and each answer is compared with the one that stands in it. The state that
 // they leave is ten lent fields.
+#![tactic(auto)]
+
 ghost use Rattle.std.specs.Prelude.{◌≡◌, ◌+◌, ◌<◌, ◌^◌, length};
 ghost use Rattle.pool_state.specs.Shown.{pool};
 ghost use Rattle.pool_state.specs.Sound.{book_of, SoundState};
-ghost use Rattle.pool_state.specs.Lent.{was, fields, turns};
+ghost use Rattle.pool_state.specs.Lent.{fields, turns};
 ghost use Rattle.journal_blocks.specs.Journal.{block_at};
 ghost use Rattle.journal_blocks.specs.declared.Block.TheVariants.{Call};
 ghost use Rattle.journal_audit.specs.Audit.{stands_at_lem, judged_by, audited, audited_on, begun, verdict_for, verdict_of_lem, audit_of};
@@ -13,7 +15,7 @@ use journal_blocks::{Block, Entry, answer_bits, has_version, read_block};
 use pool_state::{LISTS, NONE, POOL};
 
 // What an audit reports: the final total, or the index, from 0, of the block at which it stopped.
-#[derive(Drop)]
+#[derive(Clone, Copy)]
 pub enum Verdict {
     Agrees(u64),
     Differs(u64),
@@ -24,7 +26,7 @@ pub enum Verdict {
 }
 
 // Why an audit of some blocks stopped: it wants more bytes, or one of the three troubles.
-#[derive(Drop)]
+#[derive(Clone, Copy)]
 pub enum Stop {
     More,
     Differs,
@@ -34,7 +36,7 @@ pub enum Stop {
 
 // Where an audit stands, besides the state: how many calls have agreed, how many of the bytes were those of their blocks, and why it
 // stopped.
-#[derive(Drop)]
+#[derive(Clone, Copy)]
 pub struct Stand {
     pub index: u64,
     pub used: usize,
@@ -98,7 +100,7 @@ fn audit_block(
 ) -> Stand
     requires fields { fields (SoundState pool) total first heads start end enabled previous next lprev lnext }
     requires index_bound { index + 1 < 2 ^ 64 }
-    ensures { turns (λ s s'. audited s' result ≡ judged_by pool (stands_at_lem pool) at index (book_of pool s) (block_at (was part) at)) total first heads start end enabled previous next lprev lnext }
+    ensures { turns (λ s s'. audited s' result ≡ judged_by pool (stands_at_lem pool) at index (book_of pool s) (block_at part.now at)) total first heads start end enabled previous next lprev lnext }
 {
     match read_block(part, at) {
         Block::Call(entry, past) => audit_call(
@@ -146,7 +148,7 @@ pub fn audit_part(
 ) -> Stand
     requires fields { fields (SoundState pool) total first heads start end enabled previous next lprev lnext }
     requires part_bound { index + length part.now + 1 < 2 ^ 64 }
-    ensures { turns (λ s s'. audited s' result ≡ audited_on pool (record { state = s; index = index }) (was part)) total first heads start end enabled previous next lprev lnext }
+    ensures { turns (λ s s'. audited s' result ≡ audited_on pool (record { state = s; index = index }) part.now) total first heads start end enabled previous next lprev lnext }
 {
     let mut done = Stand {
         index: index,
@@ -188,7 +190,7 @@ pub fn verdict_of(done: Stand, total: u64, size: usize) -> Verdict
 
 // The blocks of a whole journal, from empty.
 fn replay(blocks: &[u8]) -> Verdict
-    ensures { result ≡ verdict_of_lem (length (was blocks)) (audited_on pool (begun pool) (was blocks)) }
+    ensures { result ≡ verdict_of_lem (length blocks.now) (audited_on pool (begun pool) blocks.now) }
 {
     let mut total: u64 = 0;
     let mut first: u16 = NONE;
@@ -219,7 +221,7 @@ fn replay(blocks: &[u8]) -> Verdict
 
 // A whole journal.
 pub fn audit(journal: &[u8]) -> Verdict
-    ensures { result ≡ audit_of pool (was journal) }
+    ensures { result ≡ audit_of pool journal.now }
 {
     if !has_version(journal) {
         return Verdict::NoVersion;

@@ -1,4 +1,6 @@
 // The blocks of a journal, each a call with its answer: reading one and writing one.
+#![tactic(auto)]
+
 ghost use Rattle.std.specs.Prelude.{[], ◌∷◌, ◌≡◌};
 ghost use Rattle.pool_state.specs.Lent.{was, is};
 ghost use Rattle.script_texts.specs.Answers.{Puts};
@@ -16,14 +18,14 @@ mod reading;
 mod writing;
 
 // A call, and the 64 bits of its answer.
-#[derive(Drop)]
+#[derive(Clone, Copy)]
 pub struct Entry {
     pub request: Request,
     pub answer: u64,
 }
 
 // What stands at a place of a journal: a call with the place after its block, the end, or one of the three faults.
-#[derive(Drop)]
+#[derive(Clone, Copy)]
 pub enum Block {
     Call(Entry, usize),
     End,
@@ -48,7 +50,7 @@ pub fn answer_bits(answer: Answer) -> u64
 }
 
 pub fn has_version(journal: &[u8]) -> bool
-    ensures { result ≡ versioned (was journal) }
+    ensures { result ≡ versioned journal.now }
 {
     if journal.len() == 0 {
         return false;
@@ -58,7 +60,7 @@ pub fn has_version(journal: &[u8]) -> bool
 
 // The block at a place; at or past the end there is none.
 pub fn read_block(journal: &[u8], at: usize) -> Block
-    ensures { result ≡ block_at (was journal) at }
+    ensures { result ≡ block_at journal.now at }
 {
     if journal.len() <= at {
         return Block::End;

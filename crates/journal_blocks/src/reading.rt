@@ -1,6 +1,5 @@
 // What the bytes of a block say.
 ghost use Rattle.std.specs.Prelude.{true, ◌≡◌, ◌+◌, ◌*◌, ◌^◌, ◌≤◌, ◌<◌, length};
-ghost use Rattle.pool_state.specs.Lent.{was};
 ghost use Rattle.journal_blocks.specs.Journal.{length_of, is_kind_lem, is_length_lem, word_in, entry_in_lem, whole_block, block_of};
 
 use crate::writing::{KIND, NUMBERS, WORD};
@@ -45,7 +44,7 @@ fn length_of(kind: u64) -> u64
 // The j-th number of a block.
 fn word_at(block: &[u8], j: usize) -> u64
     requires { 3 + 8 * j + 8 ≤ length block.now }
-    ensures { result ≡ word_in (was block) j }
+    ensures { result ≡ word_in block.now j }
 {
     let at = NUMBERS + WORD * j;
     read_be(&block[at..at + WORD])
@@ -55,7 +54,7 @@ fn word_at(block: &[u8], j: usize) -> u64
 fn entry_in(block: &[u8], kind: u64) -> Entry
     requires kind_in_bounds { 2 + length_of kind ≤ length block.now }
     requires kind_value { is_kind_lem kind ≡ true }
-    ensures { result ≡ entry_in_lem kind (was block) }
+    ensures { result ≡ entry_in_lem kind block.now }
 {
     let x = word_at(block, 0);
     let y = word_at(block, 1);
@@ -81,7 +80,7 @@ fn entry_in(block: &[u8], kind: u64) -> Entry
 // A block whose bytes are all there.
 fn read_whole(block: &[u8], at: usize, size: u64) -> Block
     requires { (is_length_lem size ≡ true) × (2 + size ≤ length block.now) × (at + length block.now < 2 ^ 64) }
-    ensures { result ≡ whole_block at size (was block) }
+    ensures { result ≡ whole_block at size block.now }
 {
     let kind = read_be(&block[KIND..NUMBERS]);
     if !is_kind(kind) {
@@ -97,7 +96,7 @@ fn read_whole(block: &[u8], at: usize, size: u64) -> Block
 // The block with which the bytes begin, that stand at the place `at`.
 pub fn read_front(bytes: &[u8], at: usize) -> Block
     requires { (0 < length bytes.now) × (at + length bytes.now < 2 ^ 64) }
-    ensures { result ≡ block_of at (was bytes) }
+    ensures { result ≡ block_of at bytes.now }
 {
     if bytes.len() < KIND {
         return Block::Truncated;

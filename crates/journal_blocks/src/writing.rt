@@ -16,7 +16,7 @@ pub const WORD: usize = 8;
 // Numbers, in 8 bytes each.
 fn put_words(part: &mut [u8], words: &[u64])
     requires { length part.old ≡ 8 * length words.now }
-    ensures { is part ≡ word_bytes (was words) }
+    ensures { is part ≡ word_bytes words.now }
 {
     let mut k = 0;
     while k < words.len() {
@@ -29,7 +29,7 @@ fn put_words(part: &mut [u8], words: &[u64])
 // The length, the call byte, and the numbers.
 fn fill_block(part: &mut [u8], kind: u64, words: &[u64])
     requires { length part.old ≡ 3 + 8 * length words.now }
-    ensures { is part ≡ laid_out kind (was words) }
+    ensures { is part ≡ laid_out kind words.now }
 {
     let end = part.len();
     put_be(&mut part[0..KIND], (end - KIND) as u64);
@@ -40,7 +40,7 @@ fn fill_block(part: &mut [u8], kind: u64, words: &[u64])
 // All of the block from a place on, or nothing where it does not fit.
 pub fn put_block(journal: &mut [u8], at: usize, kind: u64, words: &[u64]) -> usize
     requires { length words.now ≤ 4 }
-    ensures { Puts (laid_out kind (was words)) (was journal) at (is journal) result }
+    ensures { Puts (laid_out kind words.now) (was journal) at (is journal) result }
 {
     let size = NUMBERS + WORD * words.len();
     if journal.len() < size {

@@ -1,4 +1,6 @@
 // The calls of a journal over lent slices, with one signed number as the answer.
+#![tactic(auto)]
+
 ghost use Rattle.std.specs.Prelude.{[], ◌∷◌, ◌≡◌, ◌<◌, ◌^◌};
 ghost use Rattle.pool_state.specs.Shown.{pool};
 ghost use Rattle.pool_state.specs.Lent.{was, is};
@@ -83,7 +85,7 @@ fn store_entry(entry: Entry, next: usize, words: &mut [u64]) -> i64
 
 // The block at a place is read into words.
 pub fn read_entry(journal: &[u8], at: usize, words: &mut [u64]) -> i64
-    ensures { left result (is words) ≡ read_over (was journal) at (was words) }
+    ensures { left result (is words) ≡ read_over journal.now at (was words) }
 {
     if journal.len() < at {
         return INVALID_REQUEST;
@@ -99,7 +101,7 @@ pub fn read_entry(journal: &[u8], at: usize, words: &mut [u64]) -> i64
 
 // The journal is replayed from empty: which of the reports, with its figure.
 pub fn audit_journal(journal: &[u8], figure: &mut u64) -> i64
-    ensures { Reports (audit_of pool (was journal)) (was figure) result (is figure) }
+    ensures { Reports (audit_of pool journal.now) (was figure) result (is figure) }
 {
     match audit(journal) {
         Verdict::Agrees(total) => {

@@ -1,10 +1,5 @@
 -- A text that is written into a buffer ends in it. Assumes nothing.
-use Prim.Native.Nat.{ℕ, ◌+◌, ◌≤◌}
-use mathlib.Core.Bool.{Bool, true, false, cond}
-use mathlib.Core.List.{List, ◌++◌}
-use mathlib.Core.Path.{◌≡◌, refl, ap, ◌∙◌}
-use lib.ListN.{length, take, drop, length-append, length-take, length-drop}
-use native.Mathlib.Omega.{arith}
+use Rattle.std.proofs.Common.{◌≡◌, ℕ, ◌+◌, ◌≤◌, Bool, true, false, cond, List, ◌++◌, refl, ap, ◌∙◌, length, take, drop, length-append, length-take, length-drop, arith}
 use borrow.Author.Tests.{leb-true}
 use Rattle.script_texts.specs.Answers.{fits, written, past, Puts}
 

@@ -1,13 +1,14 @@
 // What the programs of a journal print, and the buffer that they read into.
+#![tactic(auto)]
+
 ghost use Rattle.std.specs.Prelude.{◌≡◌, ◌-◌, ◌≤◌, length};
 ghost use Rattle.pool_state.specs.Lent.{is};
 
 use calls::Request;
 use journal_audit::Verdict;
 use journal_blocks::Entry;
-use libc::STDOUT_FILENO;
 use script_texts::{put_bytes, put_number};
-use streams::write_all;
+use streams::{Streams, write_all};
 
 // A word and a number, as a line.
 fn put_line(out: &mut [u8], word: &[u8], number: u64) -> usize
@@ -32,11 +33,12 @@ fn put_verdict(out: &mut [u8], verdict: Verdict) -> usize
 }
 
 // The line of a report.
-pub fn report(verdict: Verdict) {
+pub fn report(mut streams: Streams, verdict: Verdict) {
     let mut out = [0u8; 64];
     let end = put_verdict(&mut out, verdict);
     write_all(
-        STDOUT_FILENO,
+        &mut streams.output,
+        &mut streams.errors,
         &out[..end],
         b"failed: the report cannot be written",
     );
@@ -98,11 +100,12 @@ fn put_entry(out: &mut [u8], entry: Entry) -> usize
 }
 
 // The line of a call and its answer; whether it was written.
-pub fn print_entry(entry: Entry) -> bool {
+pub fn print_entry(mut streams: Streams, entry: Entry) -> bool {
     let mut out = [0u8; 128];
     let end = put_entry(&mut out, entry);
     let written = write_all(
-        STDOUT_FILENO,
+        &mut streams.output,
+        &mut streams.errors,
         &out[..end],
         b"failed: the calls cannot be written",
     );

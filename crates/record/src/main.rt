@@ -1,16 +1,17 @@
 // The program that records a journal: the calls of a script, played from empty, each with its answer as a block.
+#![tactic(auto)]
+
 ghost use Rattle.std.specs.Prelude.{◌≡◌, ◌<◌, ◌≤◌, length};
-ghost use Rattle.pool_state.specs.Lent.{was, is};
+ghost use Rattle.pool_state.specs.Lent.{is};
 ghost use Rattle.record.specs.Taping.{Placed};
 
 use calls::Outcome;
 use journal_blocks::{Entry, answer_bits, begin, write_block};
-use libc::{STDIN_FILENO, STDOUT_FILENO};
 use memory_allocator::{MemoryAllocator, new, serve};
 use script_chunks::hold;
 use script_lines::find::{Found, find_newline};
 use script_lines::parse::{Line, parse_line};
-use streams::{read_some, write_all};
+use streams::{Streams, read_some, write_all};
 
 // The bytes that are kept of a line: one more than a call can have. The bytes of the longest block.
 const KEPT: usize = 81;
@@ -19,7 +20,7 @@ const LONGEST: usize = 35;
 
 // The state; how many bytes of the carry belong to the line that has not ended; the next place in the chunk; the place after what is in
 // the output; whether a read or a write has failed, or the input has ended.
-#[derive(Drop)]
+#[derive(Clone, Copy)]
 pub struct Taping {
     pub state: MemoryAllocator,
     pub held: usize,
@@ -29,7 +30,7 @@ pub struct Taping {
 }
 
 // The state that a line leaves, and the place after its block.
-#[derive(Drop)]
+#[derive(Clone, Copy)]
 pub struct Taped {
     pub state: MemoryAllocator,
     pub at: usize,
@@ -63,7 +64,7 @@ fn tape_line(s: MemoryAllocator, line: &[u8], out: &mut [u8], at: usize) -> Tape
 // The line that the newline at `end` ends.
 fn tape_ended(t: Taping, carry: &mut [u8], chunk: &[u8], end: usize, out: &mut [u8]) -> Taping
     requires { Placed t carry.old out.old × (t.from ≤ end) × (end < length chunk.now) }
-    ensures { Placed result (is carry) (is out) × (t.from < result.from) × (result.from ≤ length (was chunk)) }
+    ensures { Placed result (is carry) (is out) × (t.from < result.from) × (result.from ≤ length chunk.now) }
 {
     let held = hold(carry, t.held, chunk, t.from, end);
     let taped = tape_line(t.state, &carry[..held], out, t.at);
@@ -80,7 +81,7 @@ fn tape_ended(t: Taping, carry: &mut [u8], chunk: &[u8], end: usize, out: &mut [
 // The rest of the chunk ends no line.
 fn tape_rest(t: Taping, carry: &mut [u8], chunk: &[u8]) -> Taping
     requires { (t.held ≤ length carry.old) × (t.from < length chunk.now) }
-    ensures { (result.held ≤ length (is carry)) × (result.at ≡ t.at) × (result.from ≡ length (was chunk)) }
+    ensures { (result.held ≤ length (is carry)) × (result.at ≡ t.at) × (result.from ≡ length chunk.now) }
 {
     let end = chunk.len();
     let held = hold(carry, t.held, chunk, t.from, end);
@@ -97,7 +98,7 @@ fn tape_rest(t: Taping, carry: &mut [u8], chunk: &[u8]) -> Taping
 // The next line of the chunk.
 fn tape_next(t: Taping, carry: &mut [u8], chunk: &[u8], out: &mut [u8]) -> Taping
     requires { Placed t carry.old out.old × (t.from < length chunk.now) }
-    ensures { Placed result (is carry) (is out) × (t.from < result.from) × (result.from ≤ length (was chunk)) }
+    ensures { Placed result (is carry) (is out) × (t.from < result.from) × (result.from ≤ length chunk.now) }
 {
     let from = t.from;
     match find_newline(chunk, from, chunk.len()) {
@@ -107,13 +108,14 @@ fn tape_next(t: Taping, carry: &mut [u8], chunk: &[u8], out: &mut [u8]) -> Tapin
 }
 
 // What is in the output is handed to the writer.
-fn flush(t: Taping, out: &[u8]) -> Taping
+fn flush(mut streams: Streams, t: Taping, out: &[u8]) -> Taping
     requires { t.at ≤ length out.now }
     ensures { (result.at ≡ 0) × (result.held ≡ t.held) × (result.from ≡ t.from) }
 {
     let at = t.at;
     let written = write_all(
-        STDOUT_FILENO,
+        &mut streams.output,
+        &mut streams.errors,
         &out[..at],
         b"failed: the journal cannot be written",
     );
@@ -128,31 +130,31 @@ fn flush(t: Taping, out: &[u8]) -> Taping
 }
 
 // There is room for a block.
-fn with_room(t: Taping, out: &[u8]) -> Taping
+fn with_room(streams: Streams, t: Taping, out: &[u8]) -> Taping
     requires { t.at ≤ length out.now }
     ensures { (result.at ≤ t.at) × (result.held ≡ t.held) × (result.from ≡ t.from) }
 {
     if out.len() - t.at < LONGEST {
-        return flush(t, out);
+        return flush(streams, t, out);
     }
     t
 }
 
 // Every line of a chunk.
-fn tape_chunk(t: Taping, carry: &mut [u8], chunk: &[u8], out: &mut [u8]) -> Taping
+fn tape_chunk(streams: Streams, t: Taping, carry: &mut [u8], chunk: &[u8], out: &mut [u8]) -> Taping
     requires { Placed t carry.old out.old }
     ensures { Placed result (is carry) (is out) }
 {
     let mut s = t;
     while !s.over && s.from < chunk.len() {
         let next = tape_next(s, carry, chunk, out);
-        s = with_room(next, out);
+        s = with_room(streams, next, out);
     }
     s
 }
 
 // The input has ended: a line that no newline ends is recorded too.
-fn close(t: Taping, carry: &[u8], out: &mut [u8]) -> Taping
+fn close(streams: Streams, t: Taping, carry: &[u8], out: &mut [u8]) -> Taping
     requires { Placed t carry.now out.old }
     ensures { (result.held ≡ 0) × (result.at ≡ 0) }
 {
@@ -166,7 +168,7 @@ fn close(t: Taping, carry: &[u8], out: &mut [u8]) -> Taping
         at: taped.at,
         over: true,
     };
-    let done = flush(last, out);
+    let done = flush(streams, last, out);
     let left = done.state;
     Taping {
         state: left,
@@ -178,12 +180,19 @@ fn close(t: Taping, carry: &[u8], out: &mut [u8]) -> Taping
 }
 
 // A chunk is read and recorded.
-fn turn(t: Taping, carry: &mut [u8], chunk: &mut [u8], out: &mut [u8]) -> Taping
+fn turn(
+    mut streams: Streams,
+    t: Taping,
+    carry: &mut [u8],
+    chunk: &mut [u8],
+    out: &mut [u8],
+) -> Taping
     requires { Placed t carry.old out.old }
     ensures { Placed result (is carry) (is out) }
 {
     let read = read_some(
-        STDIN_FILENO,
+        &mut streams.input,
+        &mut streams.errors,
         chunk,
         b"failed: standard input cannot be read",
     );
@@ -199,7 +208,7 @@ fn turn(t: Taping, carry: &mut [u8], chunk: &mut [u8], out: &mut [u8]) -> Taping
         };
     }
     if count == 0 {
-        return close(t, carry, out);
+        return close(streams, t, carry, out);
     }
     let fresh = Taping {
         state: state,
@@ -208,11 +217,11 @@ fn turn(t: Taping, carry: &mut [u8], chunk: &mut [u8], out: &mut [u8]) -> Taping
         at: t.at,
         over: false,
     };
-    tape_chunk(fresh, carry, &chunk[..count], out)
+    tape_chunk(streams, fresh, carry, &chunk[..count], out)
 }
 
 // A proved loop has to end: the turns are more than any run takes.
-fn record_all(carry: &mut [u8], chunk: &mut [u8], out: &mut [u8]) {
+fn record_all(streams: Streams, carry: &mut [u8], chunk: &mut [u8], out: &mut [u8]) {
     let first = begin(out);
     let mut t = Taping {
         state: new(),
@@ -223,14 +232,19 @@ fn record_all(carry: &mut [u8], chunk: &mut [u8], out: &mut [u8]) {
     };
     let mut turns = u64::MAX;
     while !t.over && turns > 0 {
-        t = turn(t, carry, chunk, out);
+        t = turn(streams, t, carry, chunk, out);
         turns -= 1;
     }
 }
 
-fn main() {
+fn main(rt: HostRuntime) {
+    let streams = Streams {
+        input: rt.stdin(),
+        output: rt.stdout(),
+        errors: rt.stderr(),
+    };
     let mut carry = [0u8; KEPT];
-    let mut chunk = io::large_buffer();
-    let mut out = io::large_buffer();
-    record_all(&mut carry, &mut chunk, &mut out);
+    let mut chunk = [0u8; 65536];
+    let mut out = [0u8; 65536];
+    record_all(streams, &mut carry, &mut chunk, &mut out);
 }

@@ -1,10 +1,5 @@
 -- What is handed to the writer, and what a turn makes of it. Assumes nothing.
-use mathlib.Core.Path.{◌≡◌, refl, sym, ap, ◌∙◌, subst}
-use mathlib.Core.Bool.{Bool, true, false}
-use mathlib.Core.List.{List}
-use Prim.Native.Nat.{ℕ, ◌≤◌}
-use native.Mathlib.Omega.{arith}
-use lib.ListN.{length, take}
+use Rattle.std.proofs.Common.{◌≡◌, ℕ, ◌≤◌, Bool, true, false, List, refl, sym, ap, ◌∙◌, subst, length, take, arith}
 use lib.Seq.{length-take-le}
 use Rattle.script_forms.specs.Forms.{Desk}
 use Rattle.script_chunks.specs.Input.{Hears, Closes}

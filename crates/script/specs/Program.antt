@@ -14,11 +14,11 @@ pub record Handed (r : Reading) (k : ℕ) (e : Bool) (s : Session) : Type 0 wher
   pub ended : s.ended ≡ e
 
 -- a turn, of the ten fields that are lent, the forms, and the words of the register
-abbrev pub AnsweredIn : ℕ → Session → Lent (List ℕ) → Lent (List ℕ) → Lent (List ℕ) → Session → Lent ℕ → Lent (List ℕ) → OfLent
-AnsweredIn n s carry chunk out s' = turns_desk (λ m m'. Answered n m s (was carry) (was chunk) (was out) m' s' (is carry) (is out))
+abbrev pub AnsweredIn : ℕ → Session → Lent (List ℕ) → List ℕ → Lent (List ℕ) → Session → Lent ℕ → Lent (List ℕ) → OfLent
+AnsweredIn n s carry chunk out s' = turns_desk (λ m m'. Answered n m s (was carry) chunk (was out) m' s' (is carry) (is out))
 
-abbrev pub ClosedIn : ℕ → Session → Lent (List ℕ) → Lent (List ℕ) → Session → Lent ℕ → Lent (List ℕ) → OfLent
-ClosedIn n s carry out s' = turns_desk (λ m m'. Closed n m s (was carry) (was out) m' s' (is out))
+abbrev pub ClosedIn : ℕ → Session → List ℕ → Lent (List ℕ) → Session → Lent ℕ → Lent (List ℕ) → OfLent
+ClosedIn n s carry out s' = turns_desk (λ m m'. Closed n m s carry (was out) m' s' (is out))
 
 abbrev pub TurnedIn : ℕ → Session → Lent (List ℕ) → Lent (List ℕ) → Lent (List ℕ) → Session → Lent ℕ → Lent (List ℕ) → OfLent
 TurnedIn n s carry chunk out s' = turns_desk (λ m m'. Turned n m s (was carry) (was chunk) (was out) m' s' (is carry) (is chunk) (is out))

@@ -1,4 +1,6 @@
 // The script program: calls from standard input, one a line, and their answers to standard output.
+#![tactic(auto)]
+
 ghost use Rattle.std.specs.Prelude.{◌<◌, ◌≤◌, length};
 ghost use Rattle.pool_state.specs.Shown.{pool};
 ghost use Rattle.pool_state.specs.Lent.{is};
@@ -9,24 +11,24 @@ ghost use Rattle.script_sessions.specs.Sessions.{fresh, Prepared};
 ghost use Rattle.script.specs.Program.{Handed, AnsweredIn, ClosedIn, TurnedIn, Over};
 
 use holder_words::WORDS;
-use libc::{STDIN_FILENO, STDOUT_FILENO};
 use pool_state::{LISTS, NONE, POOL};
 use script_chunks::{Reading, answer_last};
 use script_forms::OPEN;
 use script_sessions::{Session, afresh, answer_part, begun, goes_on, restarted};
-use streams::{read_some, write_all};
+use streams::{Streams, read_some, write_all};
 
 // The bytes that are kept of a line: one more than a call can have.
 const KEPT: usize = 81;
 
 // This turn's text is handed to the writer.
-fn hand_over(r: Reading, count: usize, ended: bool, out: &[u8]) -> Session
+fn hand_over(mut streams: Streams, r: Reading, count: usize, ended: bool, out: &[u8]) -> Session
     requires { r.at ≤ length out.now }
     ensures { Handed r count ended result }
 {
     let at = r.at;
     let written = write_all(
-        STDOUT_FILENO,
+        &mut streams.output,
+        &mut streams.errors,
         &out[..at],
         b"failed: the answers cannot be written",
     );
@@ -41,6 +43,7 @@ fn hand_over(r: Reading, count: usize, ended: bool, out: &[u8]) -> Session
 
 // The next lines of the chunk are answered.
 fn answer_more(
+    streams: Streams,
     total: &mut u64,
     first: &mut u16,
     heads: &mut [u16; LISTS],
@@ -60,7 +63,7 @@ fn answer_more(
 ) -> Session
     requires sound_in { SoundIn pool forms words total first heads start end enabled previous next lprev lnext }
     requires prepared { Prepared pool s carry.old chunk.now out.old × (s.reading.from < s.count) }
-    ensures { AnsweredIn pool s carry chunk out result forms words total first heads start end enabled previous next lprev lnext }
+    ensures { AnsweredIn pool s carry chunk.now out result forms words total first heads start end enabled previous next lprev lnext }
 {
     let reading = s.reading;
     let count = s.count;
@@ -83,11 +86,12 @@ fn answer_more(
         &chunk[..count],
         out,
     );
-    hand_over(told, count, false, out)
+    hand_over(streams, told, count, false, out)
 }
 
 // The input has ended: a line that no newline ends is answered too.
 fn close(
+    streams: Streams,
     total: &mut u64,
     first: &mut u16,
     heads: &mut [u16; LISTS],
@@ -106,7 +110,7 @@ fn close(
 ) -> Session
     requires sound_in { SoundIn pool forms words total first heads start end enabled previous next lprev lnext }
     requires ready { Ready pool (fresh s.reading 0) carry.now out.old }
-    ensures { ClosedIn pool s carry out result forms words total first heads start end enabled previous next lprev lnext }
+    ensures { ClosedIn pool s carry.now out result forms words total first heads start end enabled previous next lprev lnext }
 {
     let reading = s.reading;
     let r = afresh(reading, 0);
@@ -119,11 +123,12 @@ fn close(
         from: 0,
         at: at,
     };
-    hand_over(last, 0, true, out)
+    hand_over(streams, last, 0, true, out)
 }
 
 // What is left of the chunk is answered before more is read. Where the input has ended, the session closes.
 fn turn(
+    mut streams: Streams,
     total: &mut u64,
     first: &mut u16,
     heads: &mut [u16; LISTS],
@@ -148,12 +153,13 @@ fn turn(
     let reading = s.reading;
     if reading.from < s.count {
         return answer_more(
-            total, first, heads, start, end, enabled, previous, next, lprev, lnext, forms, words,
-            s, carry, chunk, out,
+            streams, total, first, heads, start, end, enabled, previous, next, lprev, lnext, forms,
+            words, s, carry, chunk, out,
         );
     }
     let read = read_some(
-        STDIN_FILENO,
+        &mut streams.input,
+        &mut streams.errors,
         chunk,
         b"failed: standard input cannot be read",
     );
@@ -163,15 +169,15 @@ fn turn(
     }
     if count == 0 {
         return close(
-            total, first, heads, start, end, enabled, previous, next, lprev, lnext, forms, words,
-            s, carry, out,
+            streams, total, first, heads, start, end, enabled, previous, next, lprev, lnext, forms,
+            words, s, carry, out,
         );
     }
     restarted(s, count, false)
 }
 
 // Twelve locals are the whole state: the ten fields of the allocator, the forms of the lines, and the words of the register. A proved loop has to end, and nothing says that an input does: the turns are more than any run takes.
-fn answer_all(carry: &mut [u8], chunk: &mut [u8], out: &mut [u8]) -> Session
+fn answer_all(streams: Streams, carry: &mut [u8], chunk: &mut [u8], out: &mut [u8]) -> Session
     requires { (kept ≤ length carry.old) × (room pool ≤ length out.old) }
     ensures { Over pool result (is carry) (is chunk) (is out) }
 {
@@ -191,6 +197,7 @@ fn answer_all(carry: &mut [u8], chunk: &mut [u8], out: &mut [u8]) -> Session
     let mut turns = u64::MAX;
     while goes_on(session) && turns > 0 {
         session = turn(
+            streams,
             &mut total,
             &mut first,
             &mut heads,
@@ -213,9 +220,14 @@ fn answer_all(carry: &mut [u8], chunk: &mut [u8], out: &mut [u8]) -> Session
     session
 }
 
-fn main() {
+fn main(rt: HostRuntime) {
+    let streams = Streams {
+        input: rt.stdin(),
+        output: rt.stdout(),
+        errors: rt.stderr(),
+    };
     let mut carry = [0u8; KEPT];
-    let mut chunk = io::large_buffer();
-    let mut out = io::large_buffer();
-    answer_all(&mut carry, &mut chunk, &mut out);
+    let mut chunk = [0u8; 65536];
+    let mut out = [0u8; 65536];
+    answer_all(streams, &mut carry, &mut chunk, &mut out);
 }

@@ -66,5 +66,5 @@ pub record Answers (n : ℕ) (s : MemoryAllocator) (l : Line) (out : List ℕ) (
 abbrev pub SaysIn : ℕ → Line → Lent (List ℕ) → ℕ → ℕ → OfLent
 SaysIn n l out at r = turns (λ s s'. Says n (state_after n s l) (text_of n s l) (was out) at s' r (is out))
 
-abbrev pub AnswersIn : ℕ → Lent (List ℕ) → Lent (List ℕ) → ℕ → ℕ → OfLent
-AnswersIn n line out at r = turns (λ s s'. Answers n s (line_of (was line)) (was out) at s' r (is out))
+abbrev pub AnswersIn : ℕ → List ℕ → Lent (List ℕ) → ℕ → ℕ → OfLent
+AnswersIn n line out at r = turns (λ s s'. Answers n s (line_of line) (was out) at s' r (is out))

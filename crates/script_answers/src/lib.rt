@@ -1,4 +1,6 @@
 // The answer to one line of the script: the call is made on the lent fields of a sound state, and its text goes into a buffer.
+#![tactic(auto)]
+
 ghost use Rattle.std.specs.Prelude.{List, ◌≡◌, ◌+◌, ◌≤◌, leb, length};
 ghost use Rattle.rules.specs.Rules.{Range};
 ghost use Rattle.pool_state.specs.Shown.{pool};
@@ -63,7 +65,7 @@ pub fn put_listing(
 ) -> usize
     requires ordered { (c : List Range) × Ordered pool c start.now end.now next.now first.0 }
     requires pool_in_bounds { at + room pool ≤ length out.old }
-    ensures { (c : List Range) → Ordered pool c (was start) (was end) (was next) first.0 → PutsWithin (room pool) (chain_text c total) (was out) at (is out) result }
+    ensures { (c : List Range) → Ordered pool c start.now end.now next.now first.0 → PutsWithin (room pool) (chain_text c total) (was out) at (is out) result }
 {
     let mut starts = [0; POOL];
     let mut lasts = [0; POOL];
@@ -90,7 +92,7 @@ pub fn answer_line(
     at: usize,
 ) -> usize
     requires { HoldsSome pool total first heads start end enabled previous next lprev lnext }
-    ensures { AnswersIn pool line out at result total first heads start end enabled previous next lprev lnext }
+    ensures { AnswersIn pool line.now out at result total first heads start end enabled previous next lprev lnext }
 {
     if !has_room(out.len(), at) {
         return at;

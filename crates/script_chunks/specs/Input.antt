@@ -104,8 +104,8 @@ pub record Closes (n : ℕ) (s : Desk) (r : Reading) (carry out : List ℕ) (s' 
 abbrev pub StepsIn : (Told → Told) → ℕ → Reading → Lent (List ℕ) → Lent (List ℕ) → Reading → Lent ℕ → Lent (List ℕ) → OfLent
 StepsIn u to r carry out r' = turns_desk (λ s s'. Steps u to s r (was carry) (was out) s' r' (is carry) (is out))
 
-abbrev pub HearsIn : ℕ → Reading → Lent (List ℕ) → Lent (List ℕ) → Lent (List ℕ) → Reading → Lent ℕ → Lent (List ℕ) → OfLent
-HearsIn n r carry chunk out r' = turns_desk (λ s s'. Hears n s r (was carry) (was chunk) (was out) s' r' (is carry) (is out))
+abbrev pub HearsIn : ℕ → Reading → Lent (List ℕ) → List ℕ → Lent (List ℕ) → Reading → Lent ℕ → Lent (List ℕ) → OfLent
+HearsIn n r carry chunk out r' = turns_desk (λ s s'. Hears n s r (was carry) chunk (was out) s' r' (is carry) (is out))
 
-abbrev pub ClosesIn : ℕ → Reading → Lent (List ℕ) → Lent (List ℕ) → ℕ → Lent ℕ → Lent (List ℕ) → OfLent
-ClosesIn n r carry out at = turns_desk (λ s s'. Closes n s r (was carry) (was out) s' at (is out))
+abbrev pub ClosesIn : ℕ → Reading → List ℕ → Lent (List ℕ) → ℕ → Lent ℕ → Lent (List ℕ) → OfLent
+ClosesIn n r carry out at = turns_desk (λ s s'. Closes n s r carry (was out) s' at (is out))

@@ -1,4 +1,6 @@
 // The input in chunks, answered on the lent fields of a sound state, with the forms of its lines and the words of its register. A line that a chunk does not end is carried over to the next.
+#![tactic(auto)]
+
 ghost use Rattle.std.specs.Prelude.{◌+◌, ◌<◌, ◌≤◌, length};
 ghost use Rattle.pool_state.specs.Shown.{pool};
 ghost use Rattle.pool_state.specs.Lent.{was, is};
@@ -11,7 +13,7 @@ use script_forms::answer_any;
 use script_lines::find::{Found, find_newline};
 
 // How many bytes of the carry belong to the line that has not ended; the next place in the chunk; the next in the output.
-#[derive(Drop)]
+#[derive(Clone, Copy)]
 pub struct Reading {
     pub held: usize,
     pub from: usize,
@@ -21,7 +23,7 @@ pub struct Reading {
 // The bytes of the chunk from `from` to `to` join the held ones, as far as the carry goes.
 pub fn hold(carry: &mut [u8], held: usize, chunk: &[u8], from: usize, to: usize) -> usize
     requires { (held ≤ length carry.old) × (from ≤ to) × (to ≤ length chunk.now) }
-    ensures { Joins (between from to (was chunk)) (was carry) held (is carry) result }
+    ensures { Joins (between from to chunk.now) (was carry) held (is carry) result }
 {
     let mut count = held;
     let mut i = from;
@@ -58,7 +60,7 @@ fn answer_ended(
 ) -> Reading
     requires sound_in { SoundIn pool forms words total first heads start end enabled previous next lprev lnext }
     requires ready { Ready pool r carry.old out.old × (r.from ≤ stop) × (stop < length chunk.now) }
-    ensures { StepsIn (λ (t : Told). ends pool (joined t (between r.from stop (was chunk)))) (stop + 1) r carry out result forms words total first heads start end enabled previous next lprev lnext }
+    ensures { StepsIn (λ (t : Told). ends pool (joined t (between r.from stop chunk.now))) (stop + 1) r carry out result forms words total first heads start end enabled previous next lprev lnext }
 {
     let from = stop + 1;
     let held = hold(carry, r.held, chunk, r.from, stop);
@@ -89,7 +91,7 @@ fn answer_ended(
 // The rest of the chunk ends no line.
 fn hold_rest(r: Reading, carry: &mut [u8], chunk: &[u8]) -> Reading
     requires { (r.held ≤ length carry.old) × (r.from ≤ length chunk.now) }
-    ensures { Rests (between r.from (length (was chunk)) (was chunk)) (length (was chunk)) r (was carry) result (is carry) }
+    ensures { Rests (between r.from (length chunk.now) chunk.now) (length chunk.now) r (was carry) result (is carry) }
 {
     let size = chunk.len();
     let held = hold(carry, r.held, chunk, r.from, size);
@@ -121,7 +123,7 @@ pub fn answer_next(
 ) -> Reading
     requires sound_in { SoundIn pool forms words total first heads start end enabled previous next lprev lnext }
     requires ready { Ready pool r carry.old out.old × (r.from < length chunk.now) }
-    ensures { HearsIn pool r carry chunk out result forms words total first heads start end enabled previous next lprev lnext }
+    ensures { HearsIn pool r carry chunk.now out result forms words total first heads start end enabled previous next lprev lnext }
 {
     match find_newline(chunk, r.from, chunk.len()) {
         Found::At(stop) => answer_ended(
@@ -152,7 +154,7 @@ pub fn answer_last(
 ) -> usize
     requires sound_in { SoundIn pool forms words total first heads start end enabled previous next lprev lnext }
     requires ready { Ready pool r carry.now out.old }
-    ensures { ClosesIn pool r carry out result forms words total first heads start end enabled previous next lprev lnext }
+    ensures { ClosesIn pool r carry.now out result forms words total first heads start end enabled previous next lprev lnext }
 {
     let held = r.held;
     if held == 0 {

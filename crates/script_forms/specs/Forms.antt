@@ -1,7 +1,7 @@
 -- The script program with both forms of lines: "The first line `holders`, just these seven bytes, is not answered and begins the forms below for the rest of the
 -- input. Anywhere else it is `bad`. Without it the program is document 01's, byte for byte." n is the number of records. Assumes nothing.
 use Rattle.std.specs.Prelude.{ℕ, Bool, true, false, cond, ◌&&◌, List, [], ◌∷◌, ◌≡◌, eqb}
-use Rattle.std.specs.Borrow.{Bor}
+use Rattle.std.specs.Borrow.{MutBor}
 use Rattle.pool_state.specs.Lent.{Lent, was, is, OfFields, OfLent, fields, turns}
 use Rattle.pool_state.specs.Sound.{SoundState}
 use Rattle.pool_state.specs.declared.MemoryAllocator.{MemoryAllocator}
@@ -67,11 +67,11 @@ pub record SoundDesk (n : ℕ) (d : Desk) : Type 0 where
 abbrev pub desk_in : ℕ → List ℕ → MemoryAllocator → Desk
 desk_in f w m = desk f (state_in_lem m w)
 
-abbrev pub SoundIn : ℕ → Bor ℕ → Bor (List ℕ) → OfFields
+abbrev pub SoundIn : ℕ → MutBor ℕ → MutBor (List ℕ) → OfFields
 SoundIn n forms words = fields (λ m. SoundDesk n (desk_in forms.now words.now m))
 
 abbrev pub turns_desk : (Desk → Desk → Type 0) → Lent ℕ → Lent (List ℕ) → OfLent
 turns_desk R forms words = turns (λ m m'. R (desk_in (was forms) (was words) m) (desk_in (is forms) (is words) m'))
 
-abbrev pub RepliesIn : ℕ → Lent (List ℕ) → Lent (List ℕ) → ℕ → ℕ → Lent ℕ → Lent (List ℕ) → OfLent
-RepliesIn n line out at r = turns_desk (λ d d'. Replies n d (was line) (was out) at d' r (is out))
+abbrev pub RepliesIn : ℕ → List ℕ → Lent (List ℕ) → ℕ → ℕ → Lent ℕ → Lent (List ℕ) → OfLent
+RepliesIn n line out at r = turns_desk (λ d d'. Replies n d line (was out) at d' r (is out))

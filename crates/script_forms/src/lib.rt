@@ -1,7 +1,8 @@
 // Which forms the lines of the script have: the register's after a first line `holders`, else document 01's. The answer to a line in either.
+#![tactic(auto)]
+
 ghost use Rattle.std.specs.Prelude.{◌≡◌, ◌&&◌, ◌+◌, ◌≤◌, eqb, length};
 ghost use Rattle.pool_state.specs.Shown.{pool};
-ghost use Rattle.pool_state.specs.Lent.{was};
 ghost use Rattle.script_answers.specs.Script.{room};
 ghost use Rattle.script_forms.specs.Forms.{same, opens, SoundIn, RepliesIn};
 
@@ -18,7 +19,7 @@ const ALLOCATOR: u8 = 1;
 const REGISTER: u8 = 2;
 
 fn is_same(a: &[u8], b: &[u8]) -> bool
-    ensures { result ≡ same (was a) (was b) }
+    ensures { result ≡ same a.now b.now }
 {
     if a.len() != b.len() {
         return false;
@@ -35,7 +36,7 @@ fn is_same(a: &[u8], b: &[u8]) -> bool
 
 // Whether the register's forms begin with this line.
 fn begins_register(forms: u8, line: &[u8]) -> bool
-    ensures { result ≡ (eqb forms 0 && opens (was line)) }
+    ensures { result ≡ (eqb forms 0 && opens line.now) }
 {
     if forms == OPEN {
         return is_same(line, b"holders");
@@ -63,7 +64,7 @@ pub fn answer_any(
 ) -> usize
     requires sound_in { SoundIn pool forms words total first heads start end enabled previous next lprev lnext }
     requires pool_in_bounds { at + room pool ≤ length out.old }
-    ensures { RepliesIn pool line out at result forms words total first heads start end enabled previous next lprev lnext }
+    ensures { RepliesIn pool line.now out at result forms words total first heads start end enabled previous next lprev lnext }
 {
     if *forms == REGISTER {
         return answer_holder_line(

@@ -8,21 +8,21 @@ use crate::find::{Found, find_byte};
 use calls::Request;
 use pool_state::Address;
 
-#[derive(Drop)]
+#[derive(Clone, Copy)]
 pub enum Line {
     Asks(Request),
     List,
     Bad,
 }
 
-#[derive(Drop)]
+#[derive(Clone, Copy)]
 enum Number {
     Is(u64),
     Not,
 }
 
 // A number, and the place after its field.
-#[derive(Drop)]
+#[derive(Clone, Copy)]
 pub enum Field {
     Is(u64, usize),
     Not,

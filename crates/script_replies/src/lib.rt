@@ -1,4 +1,6 @@
 // The texts of the answers that calls give.
+#![tactic(auto)]
+
 ghost use Rattle.std.specs.Prelude.{◌≡◌, ◌+◌, ◌*◌, ◌≤◌, length};
 ghost use Rattle.pool_state.specs.Shown.{pool};
 ghost use Rattle.script_texts.specs.Answers.{range_text};

@@ -1,4 +1,6 @@
 // A session of the script: bytes are read, the lines that they end are answered, and the answers are handed to the writer, turn by turn.
+#![tactic(auto)]
+
 ghost use Rattle.std.specs.Prelude.{◌≡◌, ◌<◌, length};
 ghost use Rattle.pool_state.specs.Shown.{pool};
 ghost use Rattle.script_forms.specs.Forms.{SoundIn};
@@ -12,7 +14,7 @@ use script_chunks::{Reading, answer_next};
 
 // The reading, with this turn's text in the first places of the output; how many bytes of the chunk were read; how many of the
 // text's bytes the writer took; whether the input has ended; whether a read or a write has failed.
-#[derive(Drop)]
+#[derive(Clone, Copy)]
 pub struct Session {
     pub reading: Reading,
     pub count: usize,
@@ -96,7 +98,7 @@ pub fn answer_part(
 ) -> Reading
     requires sound_in { SoundIn pool forms words total first heads start end enabled previous next lprev lnext }
     requires ready { Ready pool r carry.old out.old × (r.from < length chunk.now) }
-    ensures { HearsIn pool r carry chunk out result forms words total first heads start end enabled previous next lprev lnext }
+    ensures { HearsIn pool r carry chunk.now out result forms words total first heads start end enabled previous next lprev lnext }
 {
     let mut reading = answer_next(
         total, first, heads, start, end, enabled, previous, next, lprev, lnext, forms, words, r,

@@ -1,8 +1,8 @@
 // The text of an answer, written whole or, where it does not fit, not at all.
+#![tactic(auto)]
+
 ghost use Rattle.std.specs.Prelude.{◌≡◌, ◌++◌, ◌+◌, ◌≤◌, leb, length};
 ghost use Rattle.script_texts.specs.Answers.{digits_of, ending, ok_text, bad_text, ok_at, no_text, range_text, list_text, Puts};
-
-use bytes::copy;
 
 fn has_room(size: usize, at: usize, need: usize) -> bool
     ensures { result ≡ leb (at + need) size }
@@ -48,7 +48,7 @@ pub fn put_bytes(out: &mut [u8], at: usize, text: &[u8]) -> usize
         return at;
     }
     let end = at + text.len();
-    copy(text, &mut out[at..end]);
+    out[at..end].copy_from_slice(text);
     end
 }
 

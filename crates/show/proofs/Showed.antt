@@ -1,10 +1,5 @@
 -- A block more that is shown. Assumes nothing.
-use Prim.Native.Nat.{ℕ, suc, ◌+◌, ◌-◌, ◌≤◌, ◌<◌}
-use mathlib.Core.Bool.{Bool, true, false, cond}
-use mathlib.Core.List.{List}
-use mathlib.Core.Path.{◌≡◌, refl, sym, ◌∙◌, subst}
-use lib.ListN.{length, drop, length-drop}
-use native.Mathlib.Omega.{arith}
+use Rattle.std.proofs.Common.{◌≡◌, ℕ, suc, ◌+◌, ◌-◌, ◌≤◌, ◌<◌, Bool, true, false, cond, List, refl, sym, ◌∙◌, subst, length, drop, length-drop, arith}
 use Rattle.linked_lists.proofs.Laws.{true≢false}
 use Rattle.journal_blocks.specs.Journal.{block_at}
 use Rattle.journal_blocks.specs.declared.Entry.{Entry}

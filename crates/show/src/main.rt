@@ -1,4 +1,6 @@
 // The program that shows a journal: standard input is read in parts, and each whole block is a line.
+#![tactic(auto)]
+
 ghost use Rattle.std.specs.Prelude.{◌≡◌, ◌+◌, ◌*◌, ◌≤◌, ◌<◌, ◌^◌, length};
 ghost use Rattle.pool_state.specs.Lent.{was, is};
 ghost use Rattle.show.specs.Shown.{Came};
@@ -6,11 +8,10 @@ ghost use Rattle.show.specs.Shown.{Came};
 use journal_audit::Verdict;
 use journal_blocks::{Block, VERSION, read_block};
 use journal_prints::{print_entry, report, shift};
-use libc::STDIN_FILENO;
-use streams::read_some;
+use streams::{Streams, read_some};
 
 // The place of the next block and its index; whether it may be shown at once; whether a fault or a failure has ended it all.
-#[derive(Drop)]
+#[derive(Clone, Copy)]
 pub struct Showing {
     pub at: usize,
     pub index: u64,
@@ -19,7 +20,7 @@ pub struct Showing {
 }
 
 // The index of the next block, how many bytes at the front of the buffer are still to be shown, and whether all is over.
-#[derive(Drop)]
+#[derive(Clone, Copy)]
 pub struct Sitting {
     pub index: u64,
     pub held: usize,
@@ -27,13 +28,13 @@ pub struct Sitting {
 }
 
 // The block at the place is judged; the showing stops there, unless it is a call.
-fn show_block(part: &[u8], at: usize, index: u64) -> Showing
+fn show_block(streams: Streams, part: &[u8], at: usize, index: u64) -> Showing
     requires { (at ≤ length part.now) × (index + 1 < 2 ^ 64) }
-    ensures { Came (length (was part)) at index result }
+    ensures { Came (length part.now) at index result }
 {
     match read_block(part, at) {
         Block::Call(entry, next) => {
-            let written = print_entry(entry);
+            let written = print_entry(streams, entry);
             Showing {
                 at: next,
                 index: index + 1,
@@ -54,7 +55,7 @@ fn show_block(part: &[u8], at: usize, index: u64) -> Showing
             over: false,
         },
         Block::UnknownCall => {
-            report(Verdict::UnknownCall(index));
+            report(streams, Verdict::UnknownCall(index));
             Showing {
                 at: at,
                 index: index,
@@ -63,7 +64,7 @@ fn show_block(part: &[u8], at: usize, index: u64) -> Showing
             }
         }
         Block::WrongLength => {
-            report(Verdict::WrongLength(index));
+            report(streams, Verdict::WrongLength(index));
             Showing {
                 at: at,
                 index: index,
@@ -75,9 +76,9 @@ fn show_block(part: &[u8], at: usize, index: u64) -> Showing
 }
 
 // Every whole block of a part.
-fn show_part(part: &[u8], index: u64) -> Showing
+fn show_part(streams: Streams, part: &[u8], index: u64) -> Showing
     requires { index + length part.now + 1 < 2 ^ 64 }
-    ensures { (result.at ≤ length (was part)) × (result.index ≤ index + length (was part)) }
+    ensures { (result.at ≤ length part.now) × (result.index ≤ index + length part.now) }
 {
     let mut s = Showing {
         at: 0,
@@ -86,13 +87,13 @@ fn show_part(part: &[u8], index: u64) -> Showing
         over: false,
     };
     while s.going {
-        s = show_block(part, s.at, s.index);
+        s = show_block(streams, part, s.at, s.index);
     }
     s
 }
 
 // What was not shown goes to the front, and more is read behind it. At the end of the input a block may be cut off.
-fn read_on(s: Showing, held: usize, buf: &mut [u8]) -> Sitting
+fn read_on(mut streams: Streams, s: Showing, held: usize, buf: &mut [u8]) -> Sitting
     requires { (s.at ≤ held) × (held ≤ length buf.old) }
     ensures { (result.held ≤ length (is buf)) × (result.index ≡ s.index) }
 {
@@ -100,7 +101,8 @@ fn read_on(s: Showing, held: usize, buf: &mut [u8]) -> Sitting
     let rest = shift(buf, s.at, held);
     let end = buf.len();
     let read = read_some(
-        STDIN_FILENO,
+        &mut streams.input,
+        &mut streams.errors,
         &mut buf[rest..end],
         b"failed: the journal cannot be read",
     );
@@ -119,7 +121,7 @@ fn read_on(s: Showing, held: usize, buf: &mut [u8]) -> Sitting
         };
     }
     if rest > 0 {
-        report(Verdict::Truncated(index));
+        report(streams, Verdict::Truncated(index));
     }
     Sitting {
         index: index,
@@ -129,11 +131,11 @@ fn read_on(s: Showing, held: usize, buf: &mut [u8]) -> Sitting
 }
 
 // The blocks in the buffer are shown.
-fn turn(index: u64, held: usize, buf: &mut [u8]) -> Sitting
+fn turn(streams: Streams, index: u64, held: usize, buf: &mut [u8]) -> Sitting
     requires { (held ≤ length buf.old) × (index + length buf.old + 1 < 2 ^ 64) }
     ensures { (result.held ≤ length (is buf)) × (result.index ≤ index + length (was buf)) }
 {
-    let s = show_part(&buf[..held], index);
+    let s = show_part(streams, &buf[..held], index);
     if s.over {
         return Sitting {
             index: s.index,
@@ -141,11 +143,11 @@ fn turn(index: u64, held: usize, buf: &mut [u8]) -> Sitting
             over: true,
         };
     }
-    read_on(s, held, buf)
+    read_on(streams, s, held, buf)
 }
 
 // A proved loop has to end: the turns are more than any file takes.
-fn show_all(buf: &mut [u8], first: usize)
+fn show_all(streams: Streams, buf: &mut [u8], first: usize)
     requires { (first ≤ length buf.old) × (length buf.old ≡ 65536) }
 {
     let mut s = Sitting {
@@ -155,36 +157,42 @@ fn show_all(buf: &mut [u8], first: usize)
     };
     let mut turns: u64 = 140737488355328;
     while !s.over && turns > 0 {
-        s = turn(s.index, s.held, buf);
+        s = turn(streams, s.index, s.held, buf);
         turns -= 1;
     }
 }
 
 // The first bytes are read: a version byte, or there is nothing to show.
-fn open(buf: &mut [u8], count: usize)
+fn open(streams: Streams, buf: &mut [u8], count: usize)
     requires { (count ≤ length buf.old) × (length buf.old ≡ 65536) }
 {
     if count == 0 {
-        report(Verdict::NoVersion);
+        report(streams, Verdict::NoVersion);
         return;
     }
     if buf[0] != VERSION {
-        report(Verdict::NoVersion);
+        report(streams, Verdict::NoVersion);
         return;
     }
     let first = shift(buf, 1, count);
-    show_all(buf, first);
+    show_all(streams, buf, first);
 }
 
-fn main() {
-    let mut buf = io::large_buffer();
+fn main(rt: HostRuntime) {
+    let mut streams = Streams {
+        input: rt.stdin(),
+        output: rt.stdout(),
+        errors: rt.stderr(),
+    };
+    let mut buf = [0u8; 65536];
     let read = read_some(
-        STDIN_FILENO,
+        &mut streams.input,
+        &mut streams.errors,
         &mut buf,
         b"failed: the journal cannot be read",
     );
     if read.failed {
         return;
     }
-    open(&mut buf, read.bytes);
+    open(streams, &mut buf, read.bytes);
 }
