@@ -1,11 +1,9 @@
 """The mistakes that the files in crates/*/must-fail make on purpose.
 
-Those of `must-fail/*.edit` the kit tries, each file in a check of its own. A file makes one mistake, and is named after it, or several, so that
-one check of the crate tries them all. Then each begins with a line `# NAME, in FUNCTION: what is wrong`, or `# NAME, in FUNCTION at NEED: what
-is wrong` where two are in one function: NEED is the declaration of the function's proof that fails. A mistake in a definition may be seen
-by a law instead: FUNCTION is the file of `proofs/` that has it, and NEED the law.
-
-Those of `must-fail/copies/*.edit` are tried by tests/edits, each in a copy of its FUNCTION (tests/wrong_copies.py), so that none wants a NEED.
+The kit tries each file in a check of its own. A file makes one mistake, and is named after it, or several, which the kit tries together: each then
+begins with a line `# NAME, in FUNCTION: what is wrong`, or `# NAME, in FUNCTION at NEED: what is wrong` where two are in one function: NEED is the
+declaration of the function's proof that fails. A mistake in a definition may be seen by a law instead: FUNCTION is the file of `proofs/` that
+has it, and NEED the law. tests/edits has each mistake of such a file tried alone too (tests/tried.py).
 """
 import re
 from dataclasses import dataclass
@@ -19,20 +17,20 @@ class Mistake:
     crate: str
     name: str
     file: Path  # the edit
-    function: str  # the one that it breaks; empty where the file makes one mistake only
-    need: str  # what of its proof fails; empty where it is the file's only mistake in that function
-    words: str
+    words: str  # its line
     source: str
     old: str
     new: str
+    is_alone: bool  # in its file
 
     @property
-    def is_copied(self):
-        return self.file.parent.name == "copies"
+    def edit(self):
+        """The name of the edit that makes it alone."""
+        return self.file.name if self.is_alone else f"{self.file.stem}.{self.name}.edit"
 
-    @property
-    def place(self):
-        return f"{self.function} at {self.need}" if self.need else self.function
+    def text(self):
+        """What that edit says."""
+        return "\n".join((self.words, f"file: {self.source}", f"old: {self.old}", f"new: {self.new}")) + "\n"
 
 
 def _fields(path):
@@ -53,14 +51,11 @@ def of_file(path, crate):
     found = list(_fields(path))
     for words, source, old, new in found:
         head = HEAD.fullmatch(words)
-        if head:
-            yield Mistake(crate, head[1], path, head[2], head[3] or "", head[4], source, old, new)
-        else:
-            yield Mistake(crate, path.stem, path, "", "", words[2:], source, old, new)
+        yield Mistake(crate, head[1] if head else path.stem, path, words, source, old, new, len(found) == 1)
 
 
 def of_crate(project, crate):
-    for path in sorted((project / "crates" / crate / "must-fail").rglob("*.edit")):
+    for path in sorted((project / "crates" / crate / "must-fail").glob("*.edit")):
         yield from of_file(path, crate)
 
 
@@ -72,11 +67,3 @@ def of_project(project):
 def find(project, crate, name):
     """The mistake of this name, or None."""
     return next((mistake for mistake in of_crate(project, crate) if mistake.name == name), None)
-
-
-def shared(mistake, others):
-    """The other mistakes of the file whose failures could be taken for this one's: those of the same function, where not each has its need."""
-    for other in others:
-        if other is not mistake and other.file == mistake.file and other.function == mistake.function:
-            if not mistake.need or not other.need or mistake.need == other.need:
-                yield other

@@ -20,10 +20,8 @@ root=$(dirname -- "$(dirname -- "$(readlink -f -- "${BASH_SOURCE[0]}")")")
 [ -e /dev/fd/1 ] || exec 1</dev/null
 [ -e /dev/fd/2 ] || exec 2>/dev/null
 
-# folders named from where the caller stands
-for setting in RATTLE_HOME TMPDIR; do
-  [ -z "${!setting:-}" ] || export "$setting=$(readlink -m -- "${!setting}")"
-done
+# a folder named from where the caller stands
+[ -z "${TMPDIR:-}" ] || export TMPDIR="$(readlink -m -- "$TMPDIR")"
 
 # in a shell of its own, which a standard error that nobody reads may end
 tell() { (printf '%s\n' "$1" >&2 2>/dev/null) || :; }

@@ -5,8 +5,10 @@
 #   take_turns FILE  waits until no other command holds FILE, and holds it to the end of this one
 #   progress         passes on what rt says of each crate that it proves, from standard input to standard error
 #   digest FILE..    a word that changes with the kit, with any file that the crates are made of, and with these files
+#   note_proved      notes that the gate has proved the files of now, and what it has left in the crates' folders out/, where that is all its own
+#   is_proved        whether that is so still, so that what stands there is of the files of now
 #
-# The lock is flock's, on the project's folder: `rt ci` removes target/, and a lock in it would go with it. It is held by an
+# The lock is flock's, on the project's folder, so that it stays where target/ is removed. It is held by an
 # open descriptor, which every command that is started here inherits, so it lasts as long as any of them does. A tool that
 # is called by a holder finds the descriptor's number in CINGHJALOFA_LOCK, and sees for itself whether that is the lock.
 
@@ -91,17 +93,35 @@ find_place() {
 
 digest() {
   {
-    rt version
-    cd "$root" && find crates crates.txt -name must-fail -prune -o -type f -print0 | LC_ALL=C sort -z | xargs -0 sha256sum
+    rt version </dev/null
+    cd "$root" && find crates crates.txt \( -name must-fail -o -path 'crates/*/out' \) -prune -o -type f -print0 | LC_ALL=C sort -z | xargs -0 sha256sum
     [ $# -eq 0 ] || sha256sum "$@"
   } | sha256sum | cut -c 1-32
 }
+
+# The libraries and the programs that stand in the folders out/: of a library its `format`, which holds the sum of all that it has.
+made_there() {
+  local crate name file
+  for crate in "$root"/crates/*/; do
+    name=$(basename "$crate")
+    for file in "$crate/out/rlib/$name.rlib/format" "$crate/out/$name"; do
+      [ ! -f "$file" ] || sha256sum "$file"
+    done
+  done | sha256sum | cut -c 1-32
+}
+
+# A library with a stamp was built by another command of rt, of whatever files there were: the gate puts it back, and it is not noted.
+note_proved() {
+  rm -f "$root/target/proved"
+  compgen -G "$root/crates/*/out/rlib/stamp" >/dev/null || echo "$(digest) $(made_there)" >"$root/target/proved"
+}
+is_proved() { [ -f "$root/target/proved" ] && [ "$(cat "$root/target/proved")" = "$(digest) $(made_there)" ]; }
 
 progress() {
   local line
   while IFS= read -r line; do
     case $line in
-    *' (unchanged since it was last proved)') ;;
+    'rt: chose --jobs '*' for '*) tell "rt: $(sed 's/.* for //' <<<"$line") is looked at" ;;
     'rt: '*) tell "$line" ;;
     esac
   done

@@ -6,7 +6,7 @@ from pathlib import Path
 import house
 
 PROJECT = Path(__file__).resolve().parents[1]
-IMPORT = re.compile(r"^(?:(?:unfoldable )?pub )?use Rattle·([a-z_0-9]+)(?:·specs)?\.specs\.(\w+)(?: as ([\w-]+)|\.\{(.*)\})$")
+IMPORT = re.compile(r"^(?:(?:unfoldable )?pub )?use Rattle\.([a-z_0-9]+)\.specs\.(\w+)(?: as ([\w-]+)|\.\{(.*)\})$")
 BEGINS = re.compile(r"^( *)(?:abbrev |unfoldable )?(?:pub )?(?:(?:record|data) (\S+)|([^\s:(){}]+)(?: \{[^}]*\})? : )")
 CONSTRUCTOR = re.compile(r"^ +(?:pub )?(\S+) : ")
 MODULE = re.compile(r"^( *)module _ ")
@@ -99,14 +99,24 @@ class Known:
                 self.files[f"{crate}/{name}"] = File(f"{crate}/{name}", path.read_text("utf-8"))
 
     def find(self, place, name):
-        """The definition of a name as a file sees it, or none: a name of the kit's, a local one, or one of a type of the code."""
+        """The definition of a name as a file sees it, or none: a name of the kit's, a local one, or one of a type of the code. A field is read
+        of what stands before the dot."""
         file = self.files[place]
         alias, _, rest = name.partition(".")
         if name in file.own:
             return file.own[name]
         if name in file.from_others:
             return self._of(place, file.from_others[name], name)
-        return self._of(place, file.aliases[alias], rest) if rest and alias in file.aliases else None
+        if rest and alias in file.aliases:
+            return self._of(place, file.aliases[alias], rest.partition(".")[0])
+        return self.find(place, alias) if alias and rest else None
+
+    def root(self, root):
+        """The definition that a list begins with: there is one."""
+        found = self.find(*root.split("#"))
+        if not found:
+            raise LookupError(f"there is no definition {root}")
+        return found
 
     def _of(self, place, other, name):
         """What a file imports of the project is there, or this reading of the files is wrong."""
@@ -119,11 +129,11 @@ class Known:
 
     def cited(self, roots, meant):
         """What the roots are, and all that they cite, but for what is cited by what is meant only."""
-        stops = {self.find(*root.split("#")) for root in meant}
+        stops = {self.root(root) for root in meant}
         ahead, found = [], set()
         for root in roots:
             place, _, name = root.partition("#")
-            ahead += [self.find(place, name)] if name else [each for each in self.files[place].here if each.names]
+            ahead += [self.root(root)] if name else [each for each in self.files[place].here if each.names]
         while ahead:
             each = ahead.pop()
             if each is None or each in found or each in stops:

@@ -5,12 +5,12 @@ from collections import namedtuple
 Crate = namedtuple("Crate", "name words below")
 Family = namedtuple("Family", "title crates")
 
-IN_PROOFS = re.compile(r"\bRattle·([a-z_0-9]+)")
+IN_PROOFS = re.compile(r"\bRattle\.([a-z_0-9]+)")
 IN_CODE = re.compile(r"(?<![:\w])([a-z_0-9]+)::|\buse ([a-z_0-9]+)[.:]")
 
 
 def families(project):
-    """`## title` begins a family; `# words` stands above the line `name: below ..` of each crate."""
+    """`## title` begins a family; `# words` stands above the line `name: below ..` of each crate, or `name staticlib: below ..`."""
     found, words = [], ""
     for line in (project / "crates.txt").read_text("utf-8").splitlines():
         if line.startswith("## "):
@@ -19,7 +19,7 @@ def families(project):
             words = line[2:]
         elif ":" in line:
             name, below = line.split(":")
-            found[-1].crates.append(Crate(name, words, below.split()))
+            found[-1].crates.append(Crate(name.split()[0], words, below.split()))
             words = ""
     return found
 

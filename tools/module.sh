@@ -1,16 +1,16 @@
 # The one LLVM module that Rattle hands to its clang for a crate: kept on the way, as text for either kind of machine, and
-# compiled by Rattle's own words. To be sourced after begin.sh, with the project as the current folder. Gives
-#   keep_module CRATE             proves CRATE and leaves its module as text in target/module/CRATE/x86_64.ll, and the words
-#                                 that Rattle gave its clang beside it
-#   keep_program CRATE            the same of a program, which leaves target/bin/CRATE too
-#   keeping_all WORD..            runs rt with these words, and leaves the same of every program that it makes
+# compiled by Rattle's own words. To be sourced after begin.sh and building.sh, with the project as the current folder. Gives
+#   keep_module CRATE             proves the static library CRATE and leaves its archive in target/staticlib, its module as text in
+#                                 target/module/CRATE/x86_64.ll, and the words that Rattle gave its clang beside it
+#   keep_program CRATE            the same of a program, whose object is left in target/obj
+#   rattle_words CRATE            the words by which rattle reads CRATE over the libraries that stand in the folders out/
 #   retarget CRATE [KIND]         leaves the same for a kind of Arm machine, aarch64 where none is named, in target/module/CRATE/KIND.ll
 #   compile CRATE KIND TEXT OBJECT [WORD..]
 #                                 compiles such a text by the words kept for CRATE and those named, for a kind of machine
 #   pack ARCHIVE OBJECT..         makes an archive
 # $work is a folder that is gone at the end.
 #
-# Rattle compiles for x86-64 alone. For Arm the module's target is replaced, and the kit's same clang compiles it, for four
+# Rattle's words are for x86-64. For Arm the module's target is replaced, and the kit's same clang compiles it, for four
 # kinds of machine. The first three use no vector or floating-point register, which may hold a guest's numbers.
 #   aarch64        bare: no unaligned access either, which faults while the MMU is off
 #   aarch64-mmu    the MMU is on: unaligned accesses are made where they are quicker
@@ -46,62 +46,99 @@ link_all() {
   done
 }
 
-# keeping_clang CLANG FOLDER: a clang that does as CLANG does, and where it compiles a module leaves in a folder of its own below FOLDER its words, the module and the object
+# keeping_clang CLANG FOLDER: a clang that does as CLANG does, and where it compiles a module leaves its words and the module in FOLDER
 keeping_clang() {
   cat <<END
 #!/bin/sh
 '$1' "\$@" || exit
 case " \$* " in *' ir '*) ;; *) exit ;; esac
-into=\$(mktemp -d '$2/XXXXXX') || exit
-printf '%s\n' "\$@" >"\$into/words"
+printf '%s\n' "\$@" >'$2/words'
 before=
 for word in "\$@"; do
-  case \$before in
-  ir) cp "\$word" "\$into/module.bc" ;;
-  -o) cp "\$word" "\$into/object" ;;
-  esac
+  [ "\$before" != ir ] || cp "\$word" '$2/module.bc'
   before=\$word
 done
 END
 }
 
-# A kit of links to the real one, with the keeping clang in it: `rt` itself then says how a crate is compiled.
-make_keeping_kit() {
-  local here
+# The kit's toolchain as links, with the keeping clang in it: rattle itself then says how a crate is compiled.
+make_keeping_toolchain() {
   rm -rf "$work/kept"
   mkdir "$work/kept"
-  [ ! -d "$work/kit" ] || return 0
-  here=on/$(uname -m)
-  link_all "$kit" on "$work/kit"
-  link_all "$kit/$here" toolchain "$work/kit/$here"
-  link_all "$kit/$here/toolchain" bin "$work/kit/$here/toolchain"
-  link_all "$kit/$here/toolchain/bin" clang "$work/kit/$here/toolchain/bin"
-  keeping_clang "$clang" "$work/kept" >"$work/kit/$here/toolchain/bin/clang"
-  chmod +x "$work/kit/$here/toolchain/bin/clang"
+  [ ! -d "$work/toolchain" ] || return 0
+  link_all "$kit/toolchain" bin "$work/toolchain"
+  link_all "$kit/toolchain/bin" clang "$work/toolchain/bin"
+  keeping_clang "$clang" "$work/kept" >"$work/toolchain/bin/clang"
+  chmod +x "$work/toolchain/bin/clang"
 }
 
-# is_kept CRATE: rt hands on a module only while it proves; one that is of the files of now stays as it is
+# what crates.txt has of a crate: its kind, and the libraries that it names
+kind_of() { sed -n "s/^$1\( [a-z ]*\)\?:.*/\1/p" crates.txt; }
+named_by() { sed -n "s/^$1\( [a-z ]*\)\?:\([^#]*\).*/\2/p" crates.txt; }
+
+# below CRATE: the project's libraries that it stands on, each once
+below() {
+  awk -v crate="$1" '
+    { sub(/#.*/, "") }
+    /:/ { split($0, parts, ":"); split(parts[1], head, " "); named[head[1]] = parts[2] }
+    END {
+      ahead[1] = crate
+      for (at = last = 1; at <= last; at++) {
+        count = split(named[ahead[at]], found, " ")
+        for (k = 1; k <= count; k++)
+          if (found[k] in named && !(found[k] in seen)) { seen[found[k]]; ahead[++last] = found[k]; print found[k] }
+      }
+    }' crates.txt
+}
+
+rattle_words() {
+  local crate=$1 each file=src/lib.rt
+  [ ! -f "crates/$crate/src/main.rt" ] || file=src/main.rt
+  printf '%s\n' --crate-name "$crate" "$file" --extern "std=$kit/rlibs/std.rlib" -L "dependency=$kit/rlibs"
+  for each in $(named_by "$crate"); do
+    if [ -d "crates/$each" ]; then
+      printf '%s\n' --extern "$each=$root/crates/$each/out/rlib/$each.rlib"
+    else
+      printf '%s\n' --extern "$each=$kit/rlibs/$each.rlib"
+    fi
+  done
+  for each in $(below "$crate"); do printf '%s\n' -L "dependency=$root/crates/$each/out/rlib"; done
+  printf '%s\n' --antt-project "$kit/rattle/logic/antt-project.json" --logic-built "$kit/logic_built" --jobs 2 --links "$crate="
+  [[ $(kind_of "$crate") != *staticlib* ]] || printf '%s\n' --crate-type staticlib
+  printf '%s\n' --cpu x86-64 # what is made runs on every one, and does not look which one it is
+}
+
+# libraries_of CRATE: sees that the libraries below it stand, proved, of the files of now: those that the gate has left, or else `rt check` proves
+# them, and what it keeps of the crate itself is built on
+kept_work=()
+libraries_of() {
+  kept_work=()
+  ! is_proved || return 0
+  kept_work=(--incremental out/incremental)
+  say "$1 and the crates below it are proved first, which takes some minutes the first time"
+  (cd "crates/$1" && rt check) </dev/null 2>&1 | tee "$work/said" | progress
+  [ "${PIPESTATUS[0]}" -eq 0 ] || { tell "$(cat "$work/said")"; fail "$1 is not proved: the words of rt stand above; \`rt check\` in crates/$1 repeats them"; }
+}
+
+# is_kept CRATE: rattle hands on a module only while it proves; one that is of the files of now stays as it is
 is_kept() { [ "$(cat "target/module/$1/of" 2>/dev/null)" = "$(digest tools/module.sh)" ]; }
 
-keep_module() {
-  ! { is_kept "$1" && [ -f "target/staticlib/lib$1.a" ]; } || return 0
-  say "$1 and the crates below it are proved first, which takes some minutes the first time"
-  keep_of "$1" staticlib
-}
+keep_module() { keep_of "$1" "target/staticlib/lib$1.a"; }
+keep_program() { keep_of "$1" "target/obj/$1.o"; }
 
-keep_program() {
-  ! is_kept "$1" || return 0
-  rm -f "target/stamp/$1"
-  keep_of "$1" check
-}
-
-# keep_of CRATE WORD: by this word of rt
+# keep_of CRATE FILE: what rattle makes of it becomes FILE
 keep_of() {
-  make_keeping_kit
-  RATTLE_HOME=$work/kit rt "$2" "$1" </dev/null 2>&1 | tee "$work/said" | progress
-  [ "${PIPESTATUS[0]}" -eq 0 ] || { tell "$(cat "$work/said")"; fail "$1 could not be made: the words of rt stand above"; }
-  [ -f "$work"/kept/*/module.bc ] || fail "rt made $1 without handing a module to clang; is it another kit than kit-id names?"
-  store_module "$1" "$work"/kept/*
+  local words
+  ! { is_kept "$1" && [ -f "$2" ]; } || return 0
+  libraries_of "$1"
+  make_keeping_toolchain
+  mapfile -t words < <(rattle_words "$1")
+  mkdir -p "$(dirname "$2")"
+  (cd "crates/$1" && "$kit/bin/rattle" build "${words[@]}" "${kept_work[@]}" --toolchain "$work/toolchain" --backend llvm -o "$root/$2.part") >"$work/said" 2>&1 ||
+    { tell "$(cat "$work/said")"; fail "$1 could not be made: the words of rattle stand above"; }
+  [ -f "$work/kept/module.bc" ] || fail "rattle made $1 without handing a module to clang; is it another kit than kit-id names?"
+  mv "$2.part" "$2"
+  store_module "$1" "$work/kept"
 }
 
 # store_module CRATE FOLDER: what the keeping clang left there, as text
@@ -112,19 +149,6 @@ store_module() {
   "$clang" "$(grep '^--target=' "$stored/words")" -x ir "$2/module.bc" -S -emit-llvm -Xclang -disable-llvm-passes \
     -o "$stored/x86_64.ll" || fail "the module of $1 could not be kept: the words of clang stand above"
   digest tools/module.sh >"$stored/of"
-}
-
-# keeping_all WORD..: rt with these words, and as it ends; of each program that it makes the module is kept too
-keeping_all() {
-  local status=0 folder object
-  make_keeping_kit
-  RATTLE_HOME=$work/kit rt "$@" || status=$?
-  for folder in "$work"/kept/*/; do
-    for object in target/obj/*.o; do
-      ! cmp -s "$object" "$folder/object" || store_module "$(basename "$object" .o)" "$folder"
-    done
-  done
-  return "$status"
 }
 
 declare -A own_lines=() # of each kind, the lines of a module that name its target
@@ -166,8 +190,8 @@ pack() {
 }
 
 kit=$(tools/kit-folder)
-clang=$kit/on/$(uname -m)/toolchain/bin/clang
-[ -x "$clang" ] || fail "the kit at $kit has no clang for $(uname -m)"
+clang=$kit/toolchain/bin/clang
+[ -x "$clang" ] || fail "the kit at $kit has no clang for this machine"
 work=$(mktemp -d)
-chmod 711 "$work" # rt runs a program as nobody, with the kit's emulator
+chmod 711 "$work" # rt runs a program as nobody
 trap 'rm -rf "$work"' EXIT

@@ -13,9 +13,9 @@ FILLING = ("memset",)
 COPIES = {"mapper.o": 1}
 # The arrays of an empty state are filled, those of ten or eleven locals or of the caller; on bare Arm the heads of the lists too, which elsewhere are a few stores.
 FILLS = {
-    "c_calls.o": (14, 17),
+    "c_calls.o": (14, 18),
     "c_upgrade.o": (6, 7),
-    "c_holders.o": (12, 15),
+    "c_holders.o": (15, 18),
     "door_fields.o": (6, 8),
     "door_own.o": (0, 0),
     "door_lists.o": (12, 15),

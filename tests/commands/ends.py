@@ -92,6 +92,24 @@ def full_and_closed():
                 yield f"{command} >{output}", scratch.shell(f"{command} >{output}").problem(1, "", like(r".+\n"))
 
 
+# what `rt ci` says; how ./test ends, and its last line
+JUDGED = [
+    ("all of it", "rt: ok; handles allowed: none; must-fail edits: 3 refused; every proof and must-fail edit was done in this run\n4 passed, 0 failed\n", 0, "5 passed, 0 failed"),
+    ("an edit that is bad", "rt: ok; handles allowed: none; must-fail edits: 3 refused, 2 bad; every proof and must-fail edit was done in this run\n4 passed, 0 failed\n", 1, "5 passed, 1 failed"),
+    ("a crate that is not proved", "rt: FAILED: low\n3 passed, 1 failed\n", 1, "4 passed, 1 failed"),
+    ("no count", "rt: the disk is full\n", 1, "1 passed, 1 failed"),
+]
+
+
+def gate_judged():
+    with Scratch() as scratch:
+        for what, says, status, last in JUDGED:
+            (scratch.root / "ci.said").write_text(says)
+            ended = scratch.run(["./test"])
+            wrong = ended.problem(status, None, None) or (None if ended.out.endswith(f"\n{last}\n") else repr(ended.out[-200:]))
+            yield f"./test where rt ci tells of {what}", wrong
+
+
 def begun():
     """Every command, a later one too, begins as the others do."""
     places = ["run", "test", *(f"{folder}/*" for folder in (".ci", "tools", "bench")), "tests/*/suite", "tests/rust/arm/*"]
@@ -109,4 +127,5 @@ def cases():
     yield ended_with_its_command()
     yield from made_for_the_machine()
     yield from full_and_closed()
+    yield from gate_judged()
     yield from begun()

@@ -12,6 +12,8 @@ from pathlib import Path
 HERE = Path(__file__).resolve().parent
 PROJECT = HERE.parents[1]
 COMMANDS = ("run", "test", ".ci", "tools", "bench", "VERSION", "kit-id")
+CRATES = "script:\nc_calls_c staticlib:\n"  # two lines, which are calls too
+LIBRARY = ("c_calls_c", "door_fields_c", "door_own_c", "door_lists_c", "door_accounts_c", "mapper_c")  # what the archives are made of
 MACHINE = platform.machine()
 LONGEST_SECONDS = 60
 BUILDING_SECONDS = 1200  # where a build is due, or another command builds
@@ -21,7 +23,7 @@ MOST_BYTES = 1 << 24
 OBEY = '#!/usr/bin/env bash\nread -r line && eval "$line"\nexit 0\n'
 ANSWER = "#!/bin/sh\nexec sed 's/.*/ok/'\n"  # one that answers each line
 DONE = "#!/bin/sh\nexit 0\n"
-EMULATOR = '#!/bin/sh\nshift 3\nexec "$@"\n'  # the programs are scripts, and need none
+EMULATOR = '#!/bin/sh\nshift 3\nexec "$@"\n'
 
 
 class Ended:
@@ -108,7 +110,7 @@ class Scratch:
         self.root, self.kit = self.above / "project", self.above / "kit"
         self._make_project(program)
         self._make_kit()
-        own = {name: value for name, value in os.environ.items() if name not in ("RATTLE_HOME", "CINGHJALOFA_LOCK", "CDPATH")}
+        own = {name: value for name, value in os.environ.items() if name not in ("CINGHJALOFA_LOCK", "CDPATH")}
         self.settings = {**own, "PATH": f"{self.kit / 'bin'}:{os.environ['PATH']}"}
 
     def __enter__(self):
@@ -127,25 +129,27 @@ class Scratch:
                 shutil.copytree(source, self.root / name)
             elif source.exists():
                 shutil.copy(source, self.root / name)
-        write(self.root / "crates.txt", "script:\nc_calls:\n")
+        write(self.root / "crates.txt", CRATES)
+        for name in LIBRARY:
+            write(self.root / "crates" / name / "src" / "lib.rt", "// One call.\n")
         write(self.root / "crates" / "script" / "stdin", "l\n")
         write(self.root / "tests" / "done" / "suite", DONE, 0o755)
         self.write_program(program)
 
     def _make_kit(self):
-        """The real kit's compiler; `rt`, the emulator and what installs packages are others."""
+        """The real kit's clang and linker; `rt`, `rattle`, the emulator and what installs packages are others."""
         told = subprocess.run([PROJECT / "tools" / "kit-folder"], capture_output=True, text=True, check=True).stdout
-        real = Path(told.strip()) / "on" / MACHINE / "toolchain"
-        toolchain = self.kit / "on" / MACHINE / "toolchain"
+        real = Path(told.strip())
         write(self.kit / "KIT-ID", "a kit that stands in\n")
-        write(self.kit / "bin" / "rt", (HERE / "kit" / "rt").read_text(), 0o755)
+        for name in ("rt", "rattle"):
+            write(self.kit / "bin" / name, (HERE / "kit" / "rt").read_text(), 0o755)
         for name in ("apt-get", "dpkg"):
             write(self.kit / "bin" / name, DONE, 0o755)
-        write(toolchain / "bin" / "qemu-x86_64", EMULATOR, 0o755)
-        for tool in (real / "bin").iterdir():
-            if not tool.name.startswith("qemu"):
-                (toolchain / "bin" / tool.name).symlink_to(tool)
-        (toolchain / "lib").symlink_to(real / "lib")
+        if MACHINE != "x86_64":
+            write(self.kit / "bin" / "qemu-x86_64", EMULATOR, 0o755)
+        (self.kit / "bin" / "rattle-link").symlink_to(real / "bin" / "rattle-link")
+        for name in ("toolchain", "c"):
+            (self.kit / name).symlink_to(real / name)
 
     def write_program(self, text):
         write(self.root / "crates" / "script" / "src" / "main.rt", text)

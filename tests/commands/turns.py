@@ -1,11 +1,13 @@
 """One command at a time builds; the others wait, say for whom, and find what it has made. Nothing is made twice."""
 import os
+import shutil
 import subprocess
 
+import scratch as standing
 from scratch import ANSWER, Scratch, like, until
 
-CHECKED = ["begins: check script"]
-LIBRARY = [f"begins: staticlib {crate}" for crate in ("c_calls", "door_fields", "door_own", "door_lists", "door_accounts", "mapper")]
+CHECKED = ["begins: check script", "begins: build script"]
+LIBRARY = [f"begins: {word} {crate}" for crate in standing.LIBRARY for word in ("check", "build")]
 RUN = ["./run", "crates.txt"]
 ANSWERED = (0, "ok\nok\n")
 
@@ -50,10 +52,11 @@ def different_together(scratch):
 
 
 def target_removed(scratch):
-    """As `rt ci` does it: a lock in target/ would be gone."""
+    """A lock in target/ would be gone."""
     with scratch.busy():
         gate = scratch.start(["tools/locked", "rt", "ci"])
-        until(lambda: scratch.asked(is_over=False) and not (scratch.root / "target").exists())
+        until(lambda: scratch.asked(is_over=False))
+        shutil.rmtree(scratch.root / "target")
         running = scratch.start(RUN)
         until(lambda: is_waiting(running) or running.process.poll() is not None)
     gate.end()

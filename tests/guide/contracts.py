@@ -93,7 +93,7 @@ def public(project, crate):
         return []
     lib = (source / "lib.rt").read_text("utf-8")
     texts = [lib] + [(source / f"{name}.rt").read_text("utf-8") for name in re.findall(r"^pub mod (\w+);", lib, re.M)]
-    own = [name for text in texts for name in re.findall(r'^pub (?:extern "C" )?fn (\w+)', text, re.M)]
+    own = [name for text in texts for name in re.findall(r"^pub fn (\w+)", text, re.M)]
     return own + [name for module, name in re.findall(r"^pub use (\w+)::(\w+);", lib, re.M) if (source / f"{module}.rt").is_file()]
 
 

@@ -8,10 +8,10 @@ from pages import SPAN
 SENTENCES, EXEMPT, PARTS = ("sentence", "calls"), ("call", "what its contract leaves open, and why"), ("call", "promise", "ruled out")
 UMBRELLA = "memory_allocator"  # all that a client takes
 STATED = "crates/promises/specs/Determined.antt"
-FUNCTION = r"\n *(?:pub )?(?:extern \"C\" )?fn {}\((.*?)\)([^(){{}}]*?)\n *((?:requires|ensures) .*?)\n *\{{\n"
-EQUATION = re.compile(r"ensures \{ λ (\S+)\. ⌜ (?:(\S+)|now \((\w+) \.exit\)|is (\w+)) ≡ ")
-WHOLE = re.compile(r"ensures \{ λ _\. ⌜ turnsEleven \(λ a a′\. a′ ≡ ")  # of the eleven fields
-HEAD = re.compile(r"(?:⌜|λ [as] [as]′\.) (\w\w+) ")
+FUNCTION = r"\n *(?:pub )?fn {}(?:<[^()]*>)?\((.*?)\)([^(){{}}]*?)\n *((?:requires|ensures) .*?)\n *\{{\n"
+EQUATION = re.compile(r"ensures (?:\w+ )?\{ (?:(result)|(\w+)\.new|is (\w+)) ≡ ")
+WHOLE = re.compile(r"ensures (?:\w+ )?\{ turns_eleven \(λ a a'\. a' ≡ ")  # of the eleven fields
+HEAD = re.compile(r"(?:\{|λ [as] [as]'\.) (\w\w+) ")
 LENT = {"Judges": "Judged", "ServedIn": "Served", "AnswersIn": "Answers", "HolderSaysIn": "HolderSays", "RepliesIn": "Replies"}  # the same of lent fields
 
 
@@ -34,8 +34,8 @@ def _is_equation(parameters, returned, clauses):
     found, lent = EQUATION.search(clauses), parameters.count("&mut ")
     if not found:
         return bool(WHOLE.search(clauses)) and "->" not in returned
-    result, left, *held = found.groups()
-    return (left == result and lent == 0) or (any(held) and lent == 1 and "->" not in returned)
+    result, *held = found.groups()
+    return (bool(result) and lent == 0) or (any(held) and lent == 1 and "->" not in returned)
 
 
 def fits(sentence, said, parameters, returned, clauses):
@@ -50,8 +50,8 @@ def called(project, page):
     own = [(entry.crate, entry.call.split("::")[-1]) for entry in entries(page) if entry.crate]
     yield from own
     yield from ((crate, name) for crate in {crate for crate, _ in own} for name in public(project, crate))
-    for path in (project / "crates").glob("*/src/*.rt"):
-        yield from ((path.parts[-3], name) for name in re.findall(r'^pub extern "C" fn (\w+)', path.read_text("utf-8"), re.M))
+    for path in (project / "crates").glob("*_c/src/*.rt"):
+        yield from ((path.parts[-3].removesuffix("_c"), name) for name in re.findall(r'^pub extern "C" fn (\w+)', path.read_text("utf-8"), re.M))
     umbrella = (project / "crates" / UMBRELLA / "src/lib.rt").read_text("utf-8")
     yield from re.findall(r"^pub use (\w+)::([a-z]\w*);", umbrella, re.M)
     for _, (cell, *_) in page.table(*PARTS):

@@ -19,7 +19,7 @@ UNCALLED = [
 
 # Files that a command makes in target/, so that a fresh clone has them not.
 MADE = {
-    "target/": "rt",
+    "target/": "tools/archives",
     **{f"target/library/{kind}/libcinghjalofa.a": "tools/archives" for kind in ("x86_64", "aarch64", "aarch64-mmu", "aarch64-uefi")},
 }
 
@@ -28,9 +28,12 @@ ELSEWHERE = {
     "src/memory_allocator.rs": "MiniVisor's module",
     "memory_allocator.rs": "the same",
     "src/paging.rs": "MiniVisor's",
+    "paging.rs": "the same",
+    "init_stage2_translation_table": "in it",
     "../shared/docs/src": "where MiniVisor's source may lie",
     "UnsafeCell": "in MiniVisor's module",
     "set_range": "in MiniVisor's module",
     "compiler_builtins": "Rust's",
     "/dev/null": "the system's",
+    "Proof.antt": "a file of proofs on the older kit",
 }

@@ -20,7 +20,7 @@ def crates(project):
     """The crates of crates.txt with what each stands on, in its order."""
     lines = [line.split("#")[0] for line in (project / "crates.txt").read_text("utf-8").splitlines()]
     parted = [line.split(":") for line in lines if ":" in line]
-    return {name.strip(): below.split() for name, below in parted}
+    return {name.split()[0]: below.split() for name, below in parted}
 
 
 @lru_cache

@@ -11,7 +11,7 @@ from dataclasses import dataclass
 from pathlib import Path
 
 LEFT_OUT = {".git", "target", "__pycache__"}
-PROVED = ("bin", "log", "obj", "stamp", "staticlib", "module", "run")  # what is kept of proved crates and programs; all else is made anew
+PROVED = ("proved", "obj", "staticlib", "module", "run")  # what is kept of proved crates and programs; all else is made anew
 LONGEST_SECONDS = 900
 OWN_SETTINGS = ("CARGO_TARGET_DIR", "CINGHJALOFA_ARCHIVE")  # of whoever starts the suite, not of a reader
 
@@ -60,8 +60,19 @@ def is_shown(shown, printed):
     return re.fullmatch(pattern, "".join(lines)) is not None
 
 
+def _passed_over(folder, names):
+    """Of a crate's folder out/ the library is kept, and what the gate has run; what its check would begin with is not."""
+    if Path(folder).name == "out":
+        return {"incremental"} & set(names)
+    return LEFT_OUT & set(names)
+
+
+def _copied(source, target):
+    """What is proved are many bytes, which rt replaces and never changes: links to them, where the disk is the same."""
+    return (_linked if "/out/" in str(source) else shutil.copy2)(source, target)
+
+
 def _linked(source, target):
-    """The checked crates are many files, which rt reads only as long as no crate changes: links to them, where the disk is the same."""
     try:
         os.link(source, target)
     except OSError:
@@ -85,12 +96,15 @@ class Place:
     def __init__(self, project):
         self.above = Path(tempfile.mkdtemp(prefix="guide-"))
         self.root = self.above / "cinghjalofa"
-        shutil.copytree(project, self.root, symlinks=True, ignore=lambda _, names: LEFT_OUT & set(names))
         with _while_nothing_is_built(project):
+            shutil.copytree(project, self.root, ignore=_passed_over, copy_function=_copied)
+            (self.root / "target").mkdir(exist_ok=True)
             for name in PROVED:
-                if (project / "target" / name).is_dir():
-                    shutil.copytree(project / "target" / name, self.root / "target" / name, symlinks=True)
-            shutil.copytree(project / "target" / "rlib", self.root / "target" / "rlib", copy_function=_linked)
+                made = project / "target" / name
+                if made.is_dir():
+                    shutil.copytree(made, self.root / "target" / name, symlinks=True)
+                elif made.exists():
+                    shutil.copy2(made, self.root / "target")
 
     def __enter__(self):
         return self

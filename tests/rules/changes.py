@@ -9,7 +9,7 @@ OTHERS = {
     "leb": ["ltb"], "ltb": ["leb"], "eqb": ["leb"], "&&": ["||"], "||": ["&&"], "true": ["false"], "false": ["true"],
     "start": ["last"], "last": ["start"], "number": ["start"], "chain": ["shelf"], "shelf": ["chain"],
     "up": ["down"], "down": ["up"], "put": ["remove"], "remove": ["put"], "lower": ["upper"], "upper": ["lower"],
-    "startOf": ["size"], "size": ["startOf"], "splits": ["meets"], "meets": ["contains"], "contains": ["meets"],
+    "start_of": ["size"], "size": ["start_of"], "splits": ["meets"], "meets": ["contains"], "contains": ["meets"],
     "a": ["t"], "t": ["a"], "l": ["u"], "u": ["l"], "r": ["q"], "q": ["r"], "s": ["z"], "z": ["s"],
     "i": ["0"], "j": ["0"], "n": ["0"], "k": ["0"], "o": ["0"], "x": ["0"], "b": ["empty"], "top": ["0"],
     "+": ["-"], "-": ["+"], "*": ["+"], "/": ["*"], "suc": [""],
@@ -18,22 +18,22 @@ OTHERS = {
 # A book's chain and shelf have the same ranges, so that what asks no order asks either. No two ranges overlap, so that they have one
 # order by first and by last bytes. A number that is at most 0 is 0.
 SAME = {
-    ("startOf r = r .start", "startOf r = r .last"),
-    ("total b = sum (b .chain)", "total b = sum (b .shelf)"),
-    ("unused n b = lowest n 0 (b .chain)", "unused n b = lowest n 0 (b .shelf)"),
-    ("freeAt b x = any (holds x) (b .chain)", "freeAt b x = any (holds x) (b .shelf)"),
-    ("lower a b = find (λ r. eqb (suc (r .last)) a) (b .chain)", "lower a b = find (λ r. eqb (suc (r .last)) a) (b .shelf)"),
-    ("upper t b = find (λ r. eqb (r .start) t) (b .chain)", "upper t b = find (λ r. eqb (r .start) t) (b .shelf)"),
+    ("start_of r = r.start", "start_of r = r.last"),
+    ("total b = sum b.chain", "total b = sum b.shelf"),
+    ("unused n b = lowest n 0 b.chain", "unused n b = lowest n 0 b.shelf"),
+    ("free_at b x = any (holds x) b.chain", "free_at b x = any (holds x) b.shelf"),
+    ("lower a b = find (λ r. eqb (suc r.last) a) b.chain", "lower a b = find (λ r. eqb (suc r.last) a) b.shelf"),
+    ("upper t b = find (λ r. eqb r.start t) b.chain", "upper t b = find (λ r. eqb r.start t) b.shelf"),
     ("refuse (eqb z 0) 4 b", "refuse (leb z 0) 4 b"),
-    ("(refuse (not (any (λ r. fits (fit z o r)) (b .shelf))) 3 b", "(refuse (not (any (λ r. fits (fit z o r)) (b .chain))) 3 b"),
+    ("(refuse (not (any (λ r. fits (fit z o r)) b.shelf)) 3 b", "(refuse (not (any (λ r. fits (fit z o r)) b.chain)) 3 b"),
     (
-        "(reserveFrom n (down o s) (up o (s + z)) b (find (contains (down o s) (up o (s + z))) (b .chain)))))))",
-        "(reserveFrom n (down o s) (up o (s + z)) b (find (contains (down o s) (up o (s + z))) (b .shelf)))))))",
+        "(reserve_from n (down o s) (up o (s + z)) b (find (contains (down o s) (up o (s + z))) b.chain))))))",
+        "(reserve_from n (down o s) (up o (s + z)) b (find (contains (down o s) (up o (s + z))) b.shelf))))))",
     ),
-    ("(refuse (any (meets s (s + z)) (b .chain)) 4 b", "(refuse (any (meets s (s + z)) (b .shelf)) 4 b"),
+    ("(refuse (any (meets s (s + z)) b.chain) 4 b", "(refuse (any (meets s (s + z)) b.shelf) 4 b"),
     (
-        "covers v x = eqb (v .number) 0 && (leb (from (v .call) (v .address)) x && ltb x (past (v .call) (v .address)))",
-        "covers v x = leb (v .number) 0 && (leb (from (v .call) (v .address)) x && ltb x (past (v .call) (v .address)))",
+        "covers v x = eqb v.number 0 && (leb (from v.call v.address) x && ltb x (past v.call v.address))",
+        "covers v x = leb v.number 0 && (leb (from v.call v.address) x && ltb x (past v.call v.address))",
     ),
 }
 

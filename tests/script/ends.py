@@ -47,10 +47,11 @@ def said():
 
 def first_line():
     """Whoever has read enough is no failure."""
-    ended = subprocess.run(["bash", "-c", f"'{RUN}' | head -n 1"], input=b"l\n" * 100000, capture_output=True)
-    if ended.stdout == b"list 0 0\n" and not ended.stderr:
+    words = f"'{RUN}' | head -n 1; exit ${{PIPESTATUS[0]}}"
+    ended = subprocess.run(["bash", "-c", words], input=b"l\n" * 100000, capture_output=True)
+    if ended.stdout == b"list 0 0\n" and not ended.stderr and ended.returncode == 141:
         return None
-    return f"./run | head -n 1\n  got:      {shown(ended.stdout)}, {ended.stderr!r}"
+    return f"./run | head -n 1\n  got:      {shown(ended.stdout)}, {ended.stderr!r}, status {ended.returncode}"
 
 
 def into_a_full_pipe(given):

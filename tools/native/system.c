@@ -1,6 +1,6 @@
 /*
  * What a program takes from a C library, for one that is linked with none: the start and the end, read, write, the reason of a
- * failure, and what a compiler may call by itself. For Linux on x86-64 and on Arm, by the kit's own clang and linker, so that the
+ * failure, a signal that is passed over, and what a compiler may call by itself. For Linux on x86-64 and on Arm, by the kit's own clang and linker, so that the
  * same bytes come out of every machine. It is trusted, as the C library is whose place it takes.
  */
 typedef unsigned long size_t;
@@ -11,24 +11,26 @@ int main(int count, char **words);
 static int reason;
 
 #if defined(__aarch64__)
-enum { READ = 63, WRITE = 64, EXIT = 94 };
+enum { READ = 63, WRITE = 64, EXIT = 94, ACTION = 134 };
 
-static long call(long number, long x, const void *y, size_t z) {
+static long call(long number, long x, const void *y, size_t z, size_t w) {
     register long x8 __asm__("x8") = number;
     register long x0 __asm__("x0") = x;
     register const void *x1 __asm__("x1") = y;
     register size_t x2 __asm__("x2") = z;
-    __asm__ volatile("svc 0" : "+r"(x0) : "r"(x8), "r"(x1), "r"(x2) : "memory");
+    register size_t x3 __asm__("x3") = w;
+    __asm__ volatile("svc 0" : "+r"(x0) : "r"(x8), "r"(x1), "r"(x2), "r"(x3) : "memory");
     return x0;
 }
 
 __asm__(".globl _start\n_start:\n  mov x29, #0\n  mov x30, #0\n  mov x0, sp\n  and sp, x0, #-16\n  b begin\n");
 #elif defined(__x86_64__)
-enum { READ = 0, WRITE = 1, EXIT = 231 };
+enum { READ = 0, WRITE = 1, EXIT = 231, ACTION = 13 };
 
-static long call(long number, long x, const void *y, size_t z) {
+static long call(long number, long x, const void *y, size_t z, size_t w) {
+    register size_t r10 __asm__("r10") = w;
     long answer;
-    __asm__ volatile("syscall" : "=a"(answer) : "a"(number), "D"(x), "S"(y), "d"(z) : "rcx", "r11", "memory");
+    __asm__ volatile("syscall" : "=a"(answer) : "a"(number), "D"(x), "S"(y), "d"(z), "r"(r10) : "rcx", "r11", "memory");
     return answer;
 }
 
@@ -36,7 +38,7 @@ __asm__(".globl _start\n_start:\n  xor %ebp, %ebp\n  mov %rsp, %rdi\n  and $-16,
 #endif
 
 __attribute__((noreturn)) void begin(long *stack) {
-    call(EXIT, main((int)*stack, (char **)(stack + 1)), 0, 0);
+    call(EXIT, main((int)*stack, (char **)(stack + 1)), 0, 0, 0);
     for (;;) {
     }
 }
@@ -48,9 +50,15 @@ static ssize_t told(long answer) {
     return -1;
 }
 
-ssize_t read(int from, void *to, size_t count) { return told(call(READ, from, to, count)); }
-ssize_t write(int to, const void *from, size_t count) { return told(call(WRITE, to, from, count)); }
+ssize_t read(int from, void *to, size_t count) { return told(call(READ, from, to, count, 0)); }
+ssize_t write(int to, const void *from, size_t count) { return told(call(WRITE, to, from, count, 0)); }
 int rattle_errno(void) { return reason; }
+
+/* The kernel's words for it are the handler, then flags and signals, of which there are none. */
+long __sysv_signal(int number, long handler) {
+    const long action[4] = {handler, 0, 0, 0};
+    return told(call(ACTION, number, action, 0, 8));
+}
 
 void *memcpy(void *restrict to, const void *restrict from, size_t count) {
     size_t at;
