@@ -6,7 +6,7 @@ use Rattle.pool_state.specs.State.{Holds}
 use Rattle.pool_state.specs.declared.MemoryAllocator.{MemoryAllocator}
 use Rattle.calls.specs.Calls.{number_of, address_of}
 use Rattle.calls.specs.Answers.{Answers}
-use Rattle.calls.specs.declared.Answer as answer
+use Rattle.calls.specs.Calls as answer
 
 -- a refusal leaves the state
 pub refusal : (n k : ℕ) (b : Book) (w : Answer) (x : answer.Answer) (s : MemoryAllocator) → w ≡ refused k b → number_of x ≡ k → address_of x ≡ 0 → Holds n b s → Answers n w x s

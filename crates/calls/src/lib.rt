@@ -15,14 +15,21 @@ pub enum Request {
     Free(Address, u64),
 }
 
-#[derive(Clone, Copy)]
-pub enum Answer {
-    Accepted(Address),
-    NoEntry,
-    InvalidEntry,
-    NoMemory,
-    InvalidRequest,
+// A refusal, by its number.
+// In MiniVisor: MemoryError.
+#[derive(Clone, Copy, Debug, PartialEq, Eq)]
+pub enum MemoryError {
+    NoEntry = 1,
+    InvalidEntry = 2,
+    NoMemory = 3,
+    InvalidRequest = 4,
 }
+
+// The address of what was allocated, and 0 after any other call that is accepted; or the refusal.
+pub type Answer = Result<Address, MemoryError>;
+
+// A number that is told, or the refusal.
+pub type Counted = Result<u64, MemoryError>;
 
 // An answer beside the state that the call leaves.
 #[derive(Clone, Copy)]
@@ -31,24 +38,17 @@ pub struct Outcome {
     pub state: MemoryAllocator,
 }
 
-// An answer beside a number; 0 where the answer is a refusal.
-#[derive(Clone, Copy)]
-pub struct Counted {
-    pub answer: Answer,
-    pub value: u64,
-}
-
+// Two refusals as signed numbers.
 pub const INVALID_ENTRY: i64 = -2;
+
+pub const INVALID_REQUEST: i64 = -4;
 
 pub fn number_of(answer: Answer) -> u64
     ensures { result ≡ number_of answer }
 {
     match answer {
-        Answer::Accepted(_) => 0,
-        Answer::NoEntry => 1,
-        Answer::InvalidEntry => 2,
-        Answer::NoMemory => 3,
-        Answer::InvalidRequest => 4,
+        Ok(_) => 0,
+        Err(error) => error as u64,
     }
 }
 
@@ -56,11 +56,8 @@ pub fn address_of(answer: Answer) -> u64
     ensures { result ≡ address_of answer }
 {
     match answer {
-        Answer::Accepted(address) => address.0,
-        Answer::NoEntry => 0,
-        Answer::InvalidEntry => 0,
-        Answer::NoMemory => 0,
-        Answer::InvalidRequest => 0,
+        Ok(address) => address.0,
+        Err(_) => 0,
     }
 }
 
@@ -70,10 +67,10 @@ pub fn signed_number(answer: Answer) -> i64
     ensures { result ≡ signed_of answer }
 {
     match answer {
-        Answer::Accepted(address) => address.0 as i64,
-        Answer::NoEntry => -1,
-        Answer::InvalidEntry => INVALID_ENTRY,
-        Answer::NoMemory => -3,
-        Answer::InvalidRequest => -4,
+        Ok(address) => address.0 as i64,
+        Err(MemoryError::NoEntry) => -1,
+        Err(MemoryError::InvalidEntry) => INVALID_ENTRY,
+        Err(MemoryError::NoMemory) => -3,
+        Err(MemoryError::InvalidRequest) => INVALID_REQUEST,
     }
 }

@@ -4,90 +4,73 @@
 ghost use Rattle.std.specs.Prelude.{◌≡◌, List};
 ghost use Rattle.rules.specs.Rules.{Range, range, lowest};
 ghost use Rattle.pool_state.specs.Shown.{pool, Marked};
+ghost use Rattle.calls.specs.declared.MemoryError.TheVariants.{NoEntry};
 ghost use Rattle.pool_entries.specs.Entries.{slot_of, DropsSome, Dropped, InsertsSome, Inserted};
+ghost use Rattle.pool_state.specs.Lent.{Keeps};
 
+use calls::MemoryError;
 use pool_chain::{enchain, unchain};
 use pool_shelf::{chain_entry_to_free_list, unchain_entry_from_free_list};
-use pool_state::{Address, LISTS, POOL, RecordIndex};
+use pool_state::{Address, Fields, POOL, RecordIndex};
 
-#[derive(Clone, Copy)]
-pub enum Slot {
-    At(RecordIndex),
-    Full,
-}
+// A step wants an unused record, and all are used.
+#[derive(Clone, Copy, Debug, PartialEq, Eq)]
+pub struct NoRecord;
 
-// How a step ends that may want a record.
-#[derive(Clone, Copy)]
-pub enum Moving {
-    Done,
-    NoRecord,
+impl From<NoRecord> for MemoryError {
+    ghost from_gives = { λ _ e. e ≡ NoEntry };
+
+    fn from(_no_record: NoRecord) -> MemoryError {
+        MemoryError::NoEntry
+    }
 }
 
 // The lowest unused record.
 // In MiniVisor: create_memory_entry.
-pub fn create_memory_entry(enabled: &[bool; POOL]) -> Slot
+pub fn create_memory_entry(enabled: &[bool; POOL]) -> Option<RecordIndex>
     requires { (c : List Range) × Marked pool c enabled.now }
     ensures { (c : List Range) → Marked pool c enabled.now → result ≡ slot_of pool (lowest pool 0 c) }
 {
-    let mut i: usize = 0;
-    while i < POOL {
-        if !enabled[i] {
-            return Slot::At(RecordIndex(i as u16));
+    for (i, used) in enabled.iter().enumerate() {
+        if !*used {
+            return Some(RecordIndex(i as u16));
         }
-        i = i + 1;
     }
-    Slot::Full
+    None
 }
 
 // Record i goes out of use.
 // In MiniVisor: delete.
-pub fn delete_entry(
-    first: &mut u16,
-    heads: &mut [u16; LISTS],
-    start: &mut [u64; POOL],
-    end: &mut [u64; POOL],
-    enabled: &mut [bool; POOL],
-    previous: &mut [u16; POOL],
-    next: &mut [u16; POOL],
-    lprev: &mut [u16; POOL],
-    lnext: &mut [u16; POOL],
-    i: RecordIndex,
-)
-    requires { DropsSome pool i.0 first heads start end enabled previous next lprev lnext }
-    ensures { Dropped pool i.0 first heads start end enabled previous next lprev lnext }
+pub fn delete_entry(f: &mut Fields<'_>, i: RecordIndex)
+    requires { DropsSome pool i.0 f }
+    ensures keeps { Keeps f }
+    ensures does { Dropped pool i.0 f }
 {
-    unchain_entry_from_free_list(start, end, lprev, lnext, heads, i);
-    unchain(first, previous, next, i);
+    unchain_entry_from_free_list(f.start, f.end, f.list_prev, f.list_next, f.free_list, i);
+    unchain(f.first_entry, f.previous, f.next, i);
     let n = i.0 as usize;
-    start[n] = 0;
-    end[n] = 0;
-    enabled[n] = false;
+    f.start[n] = 0;
+    f.end[n] = 0;
+    f.enabled[n] = false;
 }
 
 // The unused record j gets a range, between the records b and a of the chain.
 pub fn insert(
-    first: &mut u16,
-    heads: &mut [u16; LISTS],
-    start: &mut [u64; POOL],
-    end: &mut [u64; POOL],
-    enabled: &mut [bool; POOL],
-    previous: &mut [u16; POOL],
-    next: &mut [u16; POOL],
-    lprev: &mut [u16; POOL],
-    lnext: &mut [u16; POOL],
+    f: &mut Fields<'_>,
     x: RecordIndex,
     j: RecordIndex,
     y: RecordIndex,
     s: Address,
     e: Address,
 )
-    requires { InsertsSome pool x.0 y.0 (range j.0 s.0 e.0) first heads start end enabled previous next lprev lnext }
-    ensures { Inserted pool x.0 y.0 (range j.0 s.0 e.0) first heads start end enabled previous next lprev lnext }
+    requires { InsertsSome pool x.0 y.0 (range j.0 s.0 e.0) f }
+    ensures keeps { Keeps f }
+    ensures does { Inserted pool x.0 y.0 (range j.0 s.0 e.0) f }
 {
-    enchain(first, previous, next, x, j, y);
+    enchain(f.first_entry, f.previous, f.next, x, j, y);
     let m = j.0 as usize;
-    start[m] = s.0;
-    end[m] = e.0;
-    enabled[m] = true;
-    chain_entry_to_free_list(start, end, lprev, lnext, heads, j);
+    f.start[m] = s.0;
+    f.end[m] = e.0;
+    f.enabled[m] = true;
+    chain_entry_to_free_list(f.start, f.end, f.list_prev, f.list_next, f.free_list, j);
 }

@@ -4,11 +4,9 @@
 ghost use Rattle.std.specs.Prelude.{◌≡◌, ◌+◌, ◌-◌, ◌<◌, ◌≤◌};
 ghost use Rattle.rules.specs.Rules.{size_lists, top, down, up, list_number};
 
-use pool_state::{Address, LISTS, ListIndex};
+use pool_state::{Address, LISTS, ListIndex, PAGE};
 
-// A page has 4096 bytes, and 4095 has 52 leading zeros.
-const PAGE: u64 = 4096;
-
+// The last byte of a page, 4095, has so many leading zeros.
 const PAGE_ZEROS: u32 = 52;
 
 const LAST_LIST: u32 = LISTS as u32 - 1;
