@@ -1,18 +1,18 @@
 -- The rule of `allocate`, line by line. Assumes nothing.
-use Prim.Native.Nat.{ℕ, suc, ◌+◌, ◌-◌, ◌<◌, ◌≤◌}
+use Prim.Native.Nat.{ℕ, ◌+◌, ◌<◌, ◌≤◌}
 use mathlib.Core.Bool.{Bool, cond}
 use mathlib.Core.Logic.{◌≢◌}
 use mathlib.Core.Path.{◌≡◌, sym, ap, ◌∙◌}
 use lib.ListN.{get_or}
 use native.Mathlib.Omega.{arith}
 use borrow.Author.Tests.{eq-eqb, ne_eqb, lt-ltb, le-ltb}
+use Rattle.std.specs.Prelude.{Some, None}
 use Rattle.rules.specs.Rules.{top, Range, Book, accepted, refused, refuse, allocate, total, taken, up, fit, serves, find}
 use Rattle.rules_laws.proofs.Outcomes.{le_up, served}
 use Rattle.pool_state.specs.State.{Holds}
 use Rattle.pool_state.specs.declared.RecordIndex.{RecordIndex}
 use Rattle.pool_state.specs.declared.MemoryAllocator.{MemoryAllocator}
 use Rattle.pool_links.specs.Hits.{hit_of}
-use Rattle.pool_links.specs.declared.Hit.TheVariants.{At, Nothing}
 use Rattle.pool_take.specs.Take.{Asks, refuses}
 use Rattle.call_allocate.specs.Fit.{allocate_fit_lem, first_from, allocate_first_lem}
 use Rattle.pool_links.proofs.Hits.{hit-at, hit-nothing}
@@ -41,7 +41,7 @@ module _ (n : ℕ) (spare : Bool) (z o : ℕ) (b : Book) where
   abbrev serving : Range → Bool
   serving r = serves spare (fit z o r)
 
-  pub none-serves : Nothing ≡ hit_of (find serving b.shelf) → allocate_first_lem n spare z o b ≡ refused 3 b
+  pub none-serves : None ≡ hit_of (find serving b.shelf) → allocate_first_lem n spare z o b ≡ refused 3 b
   unfolding first_from
   none-serves q = ap (first_from n z o b) (hit-nothing serving b.shelf q)
 
@@ -51,7 +51,7 @@ module _ (n : ℕ) (spare : Bool) (z o : ℕ) (b : Book) where
     pub asks : Asks n b s i a (a + z) range
     pub answer : allocate_first_lem n spare z o b ≡ cond (refuses n b range a (a + z)) (refused 1 b) (accepted a (taken n range a (a + z) b))
 
-  pub fitted : 0 < z → (s : MemoryAllocator) (j : RecordIndex) (a : ℕ) → Holds n b s → At j ≡ hit_of (find serving b.shelf) → a ≡ up o (get_or s.start j.0 0)
+  pub fitted : 0 < z → (s : MemoryAllocator) (j : RecordIndex) (a : ℕ) → Holds n b s → Some j ≡ hit_of (find serving b.shelf) → a ≡ up o (get_or s.start j.0 0)
       → Fitted s j.0 a
   unfolding first_from refuse
   fitted some s j a hs q f =
@@ -73,7 +73,7 @@ module _ (n : ℕ) (spare : Bool) (z o : ℕ) (b : Book) where
       }
 
   -- the record that was found has a range below the top, and the request ends there
-  pub fit-known : (s : MemoryAllocator) (j : RecordIndex) → Holds n b s → At j ≡ hit_of (find serving b.shelf)
+  pub fit-known : (s : MemoryAllocator) (j : RecordIndex) → Holds n b s → Some j ≡ hit_of (find serving b.shelf)
       → (j.0 < n) × (get_or s.start j.0 0 < top) × (up o (get_or s.start j.0 0) + z ≤ top)
   fit-known s j hs q =
       let w = hit-at serving b.shelf j q in

@@ -1,19 +1,19 @@
 -- What one search comes to, and what a second one adds where all records are used. Assumes nothing.
 use Prim.Native.Nat.{ℕ, suc, ◌+◌}
-use mathlib.Core.Bool.{Bool, true, false, not, cond, ◌&&◌}
+use mathlib.Core.Bool.{Bool, true, false, not, ◌&&◌}
 use mathlib.Core.Logic.{◌≢◌}
 use mathlib.Core.List.{List, [], ◌∷◌}
 use mathlib.Core.Option.{Option, none, some}
 use mathlib.Core.Path.{◌≡◌, refl, ◌∙◌, subst}
 use lib.Dec.{leb, not_T}
 use native.Mathlib.Omega.{arith}
-use Rattle.rules.specs.Rules.{Range, Book, up, any, find, full, splits, Short, Plain, Splits, fit, fits, serves, Answer, refused, refuse, allocate_from}
+use Rattle.rules.specs.Rules.{Range, Book, up, any, find, full, splits, fit, fits, serves, Answer, refused, refuse, allocate_from}
 use Rattle.rules_laws.proofs.Lists.{Found, found, T_false}
 use Rattle.rules_laws.proofs.Outcomes.{served}
 use Rattle.pool_state.specs.State.{Holds}
 use Rattle.pool_state.specs.declared.MemoryAllocator.{MemoryAllocator}
 use Rattle.calls.specs.Answers.{Answers}
-use Rattle.calls.specs.declared.Answer as answer
+use Rattle.calls.specs.Calls as answer
 use Rattle.call_allocate.specs.Fit.{allocate_fit_lem, first_from, allocate_first_lem}
 
 module _ (z o : ℕ) where

@@ -4,133 +4,66 @@
 ghost use Rattle.std.specs.Prelude.{◌+◌, ◌<◌, ◌≤◌};
 ghost use Rattle.rules.specs.Rules.{allocate};
 ghost use Rattle.pool_state.specs.Shown.{pool};
-ghost use Rattle.pool_state.specs.Lent.{HoldsSome};
-ghost use Rattle.calls.specs.Answers.{Follows};
+ghost use Rattle.pool_state.specs.Lent.{HoldsBook, Keeps};
+ghost use Rattle.calls.specs.Answers.{Obeys};
 ghost use Rattle.call_allocate.specs.Fit.{allocate_first_lem, allocate_fit_lem};
 
-use calls::{Answer, number_of};
-use pool_entries::Moving;
-use pool_links::Hit;
+use calls::{Answer, MemoryError};
 use pool_shelf::find_fit;
-use pool_state::{Address, LISTS, MAX_ORDER, POOL};
+use pool_state::{Address, Fields, MAX_ORDER};
 use pool_take::define_used_memory;
 use rounding::align_up;
 
-const NO_ENTRY: u64 = 1;
-
-const NO_MEMORY: u64 = 3;
-
 // `size` bytes are taken from the first range of the shelf that can be served, if there is one, where `spare` is whether a record is
 // taken to be unused; NoEntry where that is wrong and one is wanted.
-fn allocate_first(
-    total: &mut u64,
-    first: &mut u16,
-    heads: &mut [u16; LISTS],
-    start: &mut [u64; POOL],
-    end: &mut [u64; POOL],
-    enabled: &mut [bool; POOL],
-    previous: &mut [u16; POOL],
-    next: &mut [u16; POOL],
-    lprev: &mut [u16; POOL],
-    lnext: &mut [u16; POOL],
-    spare: bool,
-    size: u64,
-    order: u64,
-) -> Answer
-    requires holds_some { HoldsSome pool total first heads start end enabled previous next lprev lnext }
+fn allocate_first(f: &mut Fields<'_>, spare: bool, size: u64, order: u64) -> Answer
+    requires holds_some { HoldsBook pool f }
     requires size_nonzero { (0 < size) × (order ≤ 63) }
-    ensures { Follows pool (allocate_first_lem pool spare size order) result total first heads start end enabled previous next lprev lnext }
+    ensures keeps { Keeps f }
+    ensures does { Obeys pool (allocate_first_lem pool spare size order) result f }
 {
-    let hit = find_fit(start, end, lnext, heads, spare, size, order);
-    let Hit::At(i) = hit else {
-        return Answer::NoMemory;
+    let Some(i) = find_fit(f.start, f.end, f.list_next, f.free_list, spare, size, order) else {
+        return Err(MemoryError::NoMemory);
     };
     let n = i.0 as usize;
-    let a = align_up(start[n], order);
-    let moving = define_used_memory(
-        total,
-        first,
-        heads,
-        start,
-        end,
-        enabled,
-        previous,
-        next,
-        lprev,
-        lnext,
-        i,
-        Address(a),
-        Address(a + size),
-    );
-    match moving {
-        Moving::Done => Answer::Accepted(Address(a)),
-        Moving::NoRecord => Answer::NoEntry,
-    }
+    let a = align_up(f.start[n], order);
+    define_used_memory(f, i, Address(a), Address(a + size))?;
+    Ok(Address(a))
 }
 
 // `size` bytes are taken from the first range that fits; where that wants a record and all are used, from the first that wants none.
-fn allocate_fit(
-    total: &mut u64,
-    first: &mut u16,
-    heads: &mut [u16; LISTS],
-    start: &mut [u64; POOL],
-    end: &mut [u64; POOL],
-    enabled: &mut [bool; POOL],
-    previous: &mut [u16; POOL],
-    next: &mut [u16; POOL],
-    lprev: &mut [u16; POOL],
-    lnext: &mut [u16; POOL],
-    size: u64,
-    order: u64,
-) -> Answer
-    requires holds_some { HoldsSome pool total first heads start end enabled previous next lprev lnext }
+fn allocate_fit(f: &mut Fields<'_>, size: u64, order: u64) -> Answer
+    requires holds_some { HoldsBook pool f }
     requires size_nonzero { (0 < size) × (order ≤ 63) }
-    ensures { Follows pool (allocate_fit_lem pool size order) result total first heads start end enabled previous next lprev lnext }
+    ensures keeps { Keeps f }
+    ensures does { Obeys pool (allocate_fit_lem pool size order) result f }
 {
-    let any = allocate_first(
-        total, first, heads, start, end, enabled, previous, next, lprev, lnext, true, size, order,
-    );
-    if number_of(any) != NO_ENTRY {
+    let any = allocate_first(f, true, size, order);
+    if any != Err(MemoryError::NoEntry) {
         return any;
     }
-    let plain = allocate_first(
-        total, first, heads, start, end, enabled, previous, next, lprev, lnext, false, size, order,
-    );
-    if number_of(plain) == NO_MEMORY {
-        return Answer::NoEntry;
+    let plain = allocate_first(f, false, size, order);
+    if plain == Err(MemoryError::NoMemory) {
+        return Err(MemoryError::NoEntry);
     }
     plain
 }
 
 // Document 01's lines for an allocation, one after the other; what passes them is served.
 // In MiniVisor: allocate.
-pub fn allocate_in(
-    total: &mut u64,
-    first: &mut u16,
-    heads: &mut [u16; LISTS],
-    start: &mut [u64; POOL],
-    end: &mut [u64; POOL],
-    enabled: &mut [bool; POOL],
-    previous: &mut [u16; POOL],
-    next: &mut [u16; POOL],
-    lprev: &mut [u16; POOL],
-    lnext: &mut [u16; POOL],
-    size: u64,
-    order: u64,
-) -> Answer
-    requires { HoldsSome pool total first heads start end enabled previous next lprev lnext }
-    ensures { Follows pool (allocate pool size order) result total first heads start end enabled previous next lprev lnext }
+pub fn allocate_in(f: &mut Fields<'_>, size: u64, order: u64) -> Answer
+    requires { HoldsBook pool f }
+    ensures keeps { Keeps f }
+    ensures does { Obeys pool (allocate pool size order) result f }
 {
     if size == 0 {
-        return Answer::InvalidRequest;
+        return Err(MemoryError::InvalidRequest);
     }
     if MAX_ORDER < order {
-        return Answer::InvalidRequest;
+        return Err(MemoryError::InvalidRequest);
     }
-    if *total < size {
-        return Answer::NoMemory;
+    if *f.free_size < size {
+        return Err(MemoryError::NoMemory);
     }
-    allocate_fit(
-        total, first, heads, start, end, enabled, previous, next, lprev, lnext, size, order,
-    )
+    allocate_fit(f, size, order)
 }

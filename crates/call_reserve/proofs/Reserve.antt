@@ -6,6 +6,7 @@ use mathlib.Core.Path.{◌≡◌, sym, ap, subst}
 use lib.Dec.{leb, leb→le}
 use native.Mathlib.Omega.{arith}
 use borrow.Author.Tests.{eq-eqb, ne_eqb, lt-ltb, le-ltb}
+use Rattle.std.specs.Prelude.{Result, Some, None}
 use Rattle.rules.specs.Rules.{top, Range, Book, Answer, accepted, refused, refuse, reserve, reserve_from, total, taken, contains, up, down, find}
 use Rattle.rules_laws.proofs.Lists.{and_l, and_r}
 use Rattle.rules_laws.proofs.Facts.{up-plain, down-plain}
@@ -13,14 +14,13 @@ use Rattle.pool_state.specs.State.{Holds}
 use Rattle.pool_state.specs.declared.RecordIndex.{RecordIndex}
 use Rattle.pool_state.specs.declared.MemoryAllocator.{MemoryAllocator}
 use Rattle.pool_links.specs.Hits.{hit_of}
-use Rattle.pool_links.specs.declared.Hit.TheVariants.{At, Nothing}
 use Rattle.pool_take.specs.Take.{Asks, refuses}
 use Rattle.calls.specs.Answers.{Answers}
-use Rattle.calls.specs.declared.Answer as answer
+use Rattle.calls.specs.Calls as answer
 use Rattle.calls.proofs.Endings.{same_answer}
 use Rattle.call_reserve.specs.Piece.{reserve_piece_lem}
 use Rattle.call_reserve.specs.Served.{served_as}
-use Rattle.call_reserve.specs.declared.Served.{Served}
+use Rattle.calls.specs.declared.MemoryError.{MemoryError}
 use Rattle.pool_links.proofs.Hits.{hit-at, hit-nothing}
 
 module _ (n s z o : ℕ) (b : Book) where
@@ -55,11 +55,11 @@ reserve-plain n s z b e g f =
     rw (ne_eqb z 0 e, le-ltb (total b) z g, le-ltb top (s + z) f, le-ltb (total b) (up 0 (s + z) - down 0 s) d, up-plain (s + z), down-plain s)
 
 -- the answer that is made of what came of a piece
-pub served-as : (n : ℕ) (w w' : Answer) (r : answer.Answer) (k : Served) (s : MemoryAllocator) → w ≡ w' → r ≡ served_as k → Answers n w' (served_as k) s → Answers n w r s
+pub served-as : (n : ℕ) (w w' : Answer) (r : answer.Answer) (k : Result (Unit {0}) MemoryError) (s : MemoryAllocator) → w ≡ w' → r ≡ served_as k → Answers n w' (served_as k) s → Answers n w r s
 served-as n w w' r k s e f h = same_answer n w w' r s e (subst (λ (x : answer.Answer). Answers n w' x s) (sym f) h)
 
 module _ (n a t : ℕ) (b : Book) (some_byte : a < t) where
-  pub not-inside : Nothing ≡ hit_of (find (contains a t) b.chain) → reserve_piece_lem n a t b ≡ refused 4 b
+  pub not-inside : None ≡ hit_of (find (contains a t) b.chain) → reserve_piece_lem n a t b ≡ refused 4 b
   unfolding reserve_from
   not-inside q = ap (reserve_from n a t b) (hit-nothing (contains a t) b.chain q)
 
@@ -68,7 +68,7 @@ module _ (n a t : ℕ) (b : Book) (some_byte : a < t) where
     pub asks : Asks n b s i a t range
     pub answer : reserve_piece_lem n a t b ≡ cond (refuses n b range a t) (refused 1 b) (accepted 0 (taken n range a t b))
 
-  pub inside : (s : MemoryAllocator) (j : RecordIndex) → Holds n b s → At j ≡ hit_of (find (contains a t) b.chain) → Inside s j.0
+  pub inside : (s : MemoryAllocator) (j : RecordIndex) → Holds n b s → Some j ≡ hit_of (find (contains a t) b.chain) → Inside s j.0
   unfolding reserve_from refuse
   inside s j hs q =
       let w = hit-at (contains a t) b.chain j q in

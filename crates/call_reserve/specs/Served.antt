@@ -1,10 +1,8 @@
 -- The answer of a reservation, by what came of its piece. Assumes nothing.
-use Rattle.calls.specs.declared.Answer.{Answer}
-use Rattle.calls.specs.declared.Answer.TheVariants.{Accepted, NoEntry, InvalidRequest}
-use Rattle.call_reserve.specs.declared.Served.{Served}
-use Rattle.call_reserve.specs.declared.Served.TheVariants.{Taken, NoRecord, Outside}
+use Rattle.std.specs.Prelude.{Result, Ok, Err}
+use Rattle.calls.specs.Calls.{Answer}
+use Rattle.calls.specs.declared.MemoryError.{MemoryError}
 
-abbrev pub served_as : Served → Answer
-served_as Taken = Accepted (record { 0 = 0 })
-served_as NoRecord = NoEntry
-served_as Outside = InvalidRequest
+abbrev pub served_as : Result (Unit {0}) MemoryError → Answer
+served_as (Ok u) = Ok (record { 0 = 0 })
+served_as (Err e) = Err e

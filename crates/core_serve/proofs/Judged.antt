@@ -2,6 +2,7 @@
 use Prim.Native.Nat.{ℕ, ◌≤◌}
 use mathlib.Core.Bool.{Bool, true, false, cond}
 use mathlib.Core.Path.{◌≡◌, sym, ap, ◌∙◌}
+use Rattle.std.specs.Prelude.{Err}
 use Rattle.linked_lists.specs.Links.{none}
 use Rattle.rules.specs.Rules.{Book, Answer}
 use Rattle.pool_state.specs.State.{Holds}
@@ -14,7 +15,7 @@ use Rattle.check_meaning.specs.Paragraph.{Sized}
 use Rattle.check_meaning.proofs.Exact.{passes-sound}
 use Rattle.calls.specs.Calls.{answer_of}
 use Rattle.calls.specs.Answers.{Answers}
-use Rattle.calls.specs.declared.Answer.TheVariants.{InvalidEntry}
+use Rattle.calls.specs.declared.MemoryError.TheVariants.{InvalidEntry}
 use Rattle.calls.specs.declared.Outcome.{Outcome}
 use Rattle.calls.proofs.Numbers.{answer-is}
 use Rattle.core_serve.specs.Made.{held, judged}
@@ -32,8 +33,8 @@ book-held n small s z e = sound-holds n s (passes-sound n small s z e)
 module _ (n : ℕ) (small : n ≤ none) (s : MemoryAllocator) (rule : Book → Answer) where
   pub sound-judged : (r : Outcome) → Sized n s → is_sound_lem n s ≡ true → ((b : Book) → Holds n b s → Answers n (rule b) r.answer r.state) → r ≡ judged n rule s
   unfolding judged
-  sound-judged r z e f = answers-held n (rule (book_of n s)) r (f (book_of n s) (book-held n small s z e)) ∙ sym (ap (λ (c : Bool). cond c (held n (rule (book_of n s))) (record { answer = InvalidEntry; state = s })) e)
+  sound-judged r z e f = answers-held n (rule (book_of n s)) r (f (book_of n s) (book-held n small s z e)) ∙ sym (ap (λ (c : Bool). cond c (held n (rule (book_of n s))) (record { answer = Err InvalidEntry; state = s })) e)
 
-  pub unsound-judged : is_sound_lem n s ≡ false → record { answer = InvalidEntry; state = s } ≡ judged n rule s
+  pub unsound-judged : is_sound_lem n s ≡ false → record { answer = Err InvalidEntry; state = s } ≡ judged n rule s
   unfolding judged
-  unsound-judged e = sym (ap (λ (c : Bool). cond c (held n (rule (book_of n s))) (record { answer = InvalidEntry; state = s })) e)
+  unsound-judged e = sym (ap (λ (c : Bool). cond c (held n (rule (book_of n s))) (record { answer = Err InvalidEntry; state = s })) e)

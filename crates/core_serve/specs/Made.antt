@@ -1,5 +1,5 @@
 -- What any call answers and leaves, for every state. n is the number of records. Assumes nothing.
-use Rattle.std.specs.Prelude.{ℕ, cond}
+use Rattle.std.specs.Prelude.{ℕ, cond, Err}
 use Rattle.rules.specs.Rules as rules
 use Rattle.rules.specs.Rules.{Book}
 use Rattle.pool_state.specs.State.{state_of}
@@ -7,7 +7,7 @@ use Rattle.pool_state.specs.Sound.{book_of}
 use Rattle.pool_state.specs.declared.MemoryAllocator.{MemoryAllocator}
 use Rattle.check_state.specs.IsSound.{is_sound_lem}
 use Rattle.calls.specs.Calls.{answer_of}
-use Rattle.calls.specs.declared.Answer.TheVariants.{InvalidEntry}
+use Rattle.calls.specs.declared.MemoryError.TheVariants.{InvalidEntry}
 use Rattle.calls.specs.declared.Outcome.{Outcome}
 
 -- an answer of the rules, with the state that holds its book
@@ -16,7 +16,7 @@ held n w = record { answer = answer_of w.number w.address; state = state_of n w.
 
 -- a sound state is answered by the rule, on the book that its links lead to; an unsound one is InvalidEntry, and comes back as it was
 unfoldable pub judged : ℕ → (Book → rules.Answer) → MemoryAllocator → Outcome
-judged n rule s = cond (is_sound_lem n s) (held n (rule (book_of n s))) (record { answer = InvalidEntry; state = s })
+judged n rule s = cond (is_sound_lem n s) (held n (rule (book_of n s))) (record { answer = Err InvalidEntry; state = s })
 
 -- any call
 abbrev pub made : ℕ → MemoryAllocator → rules.Call → Outcome

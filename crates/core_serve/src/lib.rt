@@ -7,53 +7,22 @@ ghost use Rattle.check_state.specs.IsSound.{is_sound_lem};
 ghost use Rattle.calls.specs.Calls.{call_of};
 ghost use Rattle.core_serve.specs.Made.{made};
 
-use call_serve::serve_in;
-use calls::{Answer, Outcome, Request};
+use call_serve::serve_fields;
+use calls::{MemoryError, Outcome, Request};
 use check_state::is_sound;
-use pool_state::{MemoryAllocator, RecordIndex};
+use pool_state::{MemoryAllocator, fields_of};
 
 // A request of a state that is known to be sound: nothing is checked again.
 pub fn serve_sound(s: MemoryAllocator, request: Request) -> Outcome
     requires { is_sound_lem pool s ≡ true }
     ensures { result ≡ made pool s (call_of request) }
 {
-    let mut total = s.free_size;
-    let mut first = s.first_entry.0;
-    let mut heads = s.free_list;
-    let mut start = s.start;
-    let mut end = s.end;
-    let mut enabled = s.enabled;
-    let mut previous = s.previous;
-    let mut next = s.next;
-    let mut lprev = s.list_prev;
-    let mut lnext = s.list_next;
-    let answer = serve_in(
-        &mut total,
-        &mut first,
-        &mut heads,
-        &mut start,
-        &mut end,
-        &mut enabled,
-        &mut previous,
-        &mut next,
-        &mut lprev,
-        &mut lnext,
-        request,
-    );
+    let mut state = s;
+    let mut f = fields_of!(state);
+    let answer = serve_fields(&mut f, request);
     Outcome {
         answer: answer,
-        state: MemoryAllocator {
-            free_size: total,
-            first_entry: RecordIndex(first),
-            free_list: heads,
-            start: start,
-            end: end,
-            enabled: enabled,
-            previous: previous,
-            next: next,
-            list_prev: lprev,
-            list_next: lnext,
-        },
+        state: state,
     }
 }
 
@@ -65,7 +34,7 @@ pub fn serve(s: MemoryAllocator, request: Request) -> Outcome
         return serve_sound(s, request);
     }
     Outcome {
-        answer: Answer::InvalidEntry,
+        answer: Err(MemoryError::InvalidEntry),
         state: s,
     }
 }

@@ -7,7 +7,6 @@ use mathlib.Core.Path.{◌≡◌, sym, ap, ◌∙◌, subst}
 use lib.ListN.{get_or}
 use lib.Dec.{T, leb, ltb, leb→le, ltb→lt, le→leb, lt→ltb}
 use native.Mathlib.Omega.{arith}
-use borrow.Author.Tests.{lt-ltb, le-ltb}
 use Rattle.linked_lists.specs.Links as links
 use Rattle.linked_lists.proofs.Laws.{same?, true≢false}
 use Rattle.rules.specs.Rules.{Range, any, meets}
@@ -17,13 +16,7 @@ use Rattle.pool_state.specs.Shown.{at}
 use Rattle.pool_chain.specs.Chain.{Placed}
 use Rattle.pool_chain.proofs.Neighbours.{below, none_below, above, none_above}
 
--- a test of a record, where there is one
-pub no_index : (i n : ℕ) (w : Bool) → n ≤ i → false ≡ (ltb i n && w)
-no_index i n w b = rw (le-ltb i n b)
-
-pub at-index : (i n : ℕ) (w : Bool) → i < n → w ≡ (ltb i n && w)
-at-index i n w b = rw (lt-ltb i n b)
-
+-- what a test of a record says, where it passes
 indexed : (i n : ℕ) (w : Bool) → T (ltb i n && w) → (i < n) × T w
 indexed i n w h = (ltb→lt i n (and_l (ltb i n) w h), and_r (ltb i n) w h)
 

@@ -8,7 +8,7 @@ ghost use Rattle.pool_state.specs.Shown.{pool, Runs, Walked, Gapped};
 ghost use Rattle.pool_chain.specs.Chain.{Ordered, StartsBelow, Placed, Unchained, Enchained};
 ghost use Rattle.pool_links.specs.Hits.{hit_of};
 
-use pool_links::{Gap, Hit, choose, link_between, link_of, unlink};
+use pool_links::{Gap, choose, link_between, link_of, unlink};
 use pool_state::{Address, NONE, POOL, RecordIndex};
 
 // Of so many records a search asks one where to begin.
@@ -46,23 +46,19 @@ pub fn enchain(
 fn nearest_below(start: &[u64; POOL], address: Address) -> RecordIndex
     ensures { StartsBelow pool start.now address.0 result.0 }
 {
-    let mut nearest: u16 = NONE;
-    let mut from: u64 = 0;
-    let mut k = STRIDE;
-    while k < POOL {
+    let mut nearest = RecordIndex(NONE);
+    let mut from = 0;
+    for k in (STRIDE..POOL).step_by(STRIDE) {
         let at = start[k];
         if at == 0 {
-            return RecordIndex(nearest);
+            return nearest;
         }
-        if from < at {
-            if at < address.0 {
-                from = at;
-                nearest = k as u16;
-            }
+        if from < at && at < address.0 {
+            from = at;
+            nearest = RecordIndex(k as u16);
         }
-        k = k + STRIDE;
     }
-    RecordIndex(nearest)
+    nearest
 }
 
 // The record after another in the chain; the first where there is no other.
@@ -92,18 +88,12 @@ fn search_on(
     while cur.0 != NONE {
         let n = cur.0 as usize;
         if address.0 <= start[n] {
-            return Gap {
-                before: before,
-                after: cur,
-            };
+            return Gap { before, after: cur };
         }
         before = cur;
         cur = link_of(next, cur);
     }
-    Gap {
-        before: before,
-        after: cur,
-    }
+    Gap { before, after: cur }
 }
 
 // The place of an address in the chain: after the last range that starts below it.
@@ -131,7 +121,7 @@ pub fn search_entry_containing_address(
     first: RecordIndex,
     address: Address,
     past: Address,
-) -> Hit
+) -> Option<RecordIndex>
     requires ordered { (c : List Range) × Ordered pool c start.now end.now next.now first.0 }
     requires address_lt_past { (address.0 < past.0) × (past.0 ≤ top) }
     ensures { (c : List Range) → Ordered pool c start.now end.now next.now first.0 → result ≡ hit_of (find (contains address.0 past.0) c) }
@@ -139,35 +129,29 @@ pub fn search_entry_containing_address(
     let gap = search_entry_previous_address(start, next, first, Address(address.0 + 1));
     let i = gap.before;
     if i.0 == NONE {
-        return Hit::Nothing;
+        return None;
     }
     let n = i.0 as usize;
     if end[n] < past.0 - 1 {
-        return Hit::Nothing;
+        return None;
     }
-    Hit::At(i)
+    Some(i)
 }
 
 // Whether record i has a range whose last byte is at the address or past it.
 pub fn reaches(end: &[u64; POOL], i: RecordIndex, address: Address) -> bool
     ensures { result ≡ (ltb i.0 pool && leb address.0 (get_or end.now i.0 0)) }
 {
-    let n = i.0 as usize;
-    if POOL <= n {
-        return false;
-    }
-    address.0 <= end[n]
+    end.get(i.0 as usize).is_some_and(|last| address.0 <= *last)
 }
 
 // Whether record i has a range that starts below the address.
 pub fn starts_below(start: &[u64; POOL], i: RecordIndex, address: Address) -> bool
     ensures { result ≡ (ltb i.0 pool && ltb (get_or start.now i.0 0) address.0) }
 {
-    let n = i.0 as usize;
-    if POOL <= n {
-        return false;
-    }
-    start[n] < address.0
+    start
+        .get(i.0 as usize)
+        .is_some_and(|first| *first < address.0)
 }
 
 // Whether a byte from `address` to before `past` is free; the records on either side of the place of `address` tell.
@@ -182,8 +166,5 @@ pub fn overlaps_neighbour(
     requires { address.0 < past.0 }
     ensures { (c : List Range) → Placed pool c start.now end.now before.0 after.0 address.0 → result ≡ any (meets address.0 past.0) c }
 {
-    if reaches(end, before, address) {
-        return true;
-    }
-    starts_below(start, after, past)
+    reaches(end, before, address) || starts_below(start, after, past)
 }

@@ -1,7 +1,7 @@
 -- The lowest unused record, from the marks of the records in use. Assumes nothing.
 use Prim.Native.Nat.{ℕ, zero, suc, ◌+◌, ◌-◌, ◌<◌, ◌≤◌}
 use mathlib.Core.Bool.{Bool, true, false}
-use mathlib.Core.Logic.{◌⊎◌, inl, inr, ⊎_elim}
+use mathlib.Core.Logic.{inl, inr, ⊎_elim}
 use mathlib.Core.List.{List}
 use mathlib.Core.Path.{◌≡◌, refl, sym, ap, ◌∙◌, subst}
 use lib.ListN.{get_or}
@@ -9,13 +9,13 @@ use lib.Dec.{eqb, eqb→eq, eqb_refl, T}
 use native.Mathlib.Omega.{arith}
 use native.Mathlib.Numerals.{add-one}
 use borrow.Author.Tests.{lt-ltb, le-ltb}
+use Rattle.std.specs.Prelude.{Some, None}
 use Rattle.rules.specs.Rules.{Range, Book, any, lowest, unused}
 use Rattle.rules_laws.proofs.Lists.{any→, any←, T_true, T_false, T-or-not, T-no}
 use Rattle.pool_state.specs.Shown.{Marked}
 use Rattle.pool_state.specs.declared.RecordIndex.{RecordIndex}
 use Rattle.linked_lists.proofs.Laws.{below?}
 use Rattle.pool_entries.specs.Entries.{slot_of}
-use Rattle.pool_entries.specs.declared.Slot.TheVariants.{At, Full}
 
 pub marked-any : (n : ℕ) (c : List Range) (en : List Bool) → Marked n c en → (i : ℕ) → i < n → get_or en i false ≡ any (λ r. eqb i r.number) c
 marked-any n c en m i b =
@@ -45,13 +45,13 @@ pub unused-is : (n : ℕ) (b : Book) → lowest n 0 b.chain ≡ unused n b
 unfolding unused
 unused-is n b = refl
 
-pub slot-full : (n i : ℕ) → Full ≡ slot_of n i → n ≤ i
+pub slot-full : (n i : ℕ) → None ≡ slot_of n i → n ≤ i
 slot-full n i = ⊎_elim
     (λ (h : i < n). rw (lt-ltb i n h) (λ e. let z : ◌≡◌ {A = ℕ} 0 1 = cc in absurd (let k : ⊥ = omega arith in k)))
     (λ (h : n ≤ i). λ e. h)
     (below? i n)
 
-pub slot_at : (n i : ℕ) (j : RecordIndex) → At j ≡ slot_of n i → (j.0 ≡ i) × (i < n)
+pub slot_at : (n i : ℕ) (j : RecordIndex) → Some j ≡ slot_of n i → (j.0 ≡ i) × (i < n)
 slot_at n i j = ⊎_elim
     (λ (h : i < n). rw (lt-ltb i n h) (λ e. let q : j ≡ record { 0 = i } = cc in (ap (λ (x : RecordIndex). x.0) q, h)))
     (λ (h : n ≤ i). rw (le-ltb i n h) (λ e. let z : ◌≡◌ {A = ℕ} 0 1 = cc in absurd (let k : ⊥ = omega arith in k)))

@@ -1,21 +1,18 @@
 -- What a record that comes into use or goes out of it asks for, and how a step ends that may want one. Assumes nothing.
-use Rattle.std.specs.Prelude.{ℕ, Bool, true, false, cond, ◌≡◌, ltb}
-use Rattle.std.specs.Borrow.{MutBor}
+use Rattle.std.specs.Prelude.{ℕ, Bool, true, false, cond, ◌≡◌, ltb, Option, Some, None, Result, Ok, Err}
 use Rattle.linked_lists.specs.Links.{pick}
 use Rattle.rules.specs.Rules.{Range, start_of, Book, remove, put}
 use Rattle.rules.specs.Sound.{In, Good, Other, Ahead, Apart}
 use Rattle.pool_state.specs.Shown.{Gapped, Shape}
 use Rattle.pool_state.specs.State.{Holds}
-use Rattle.pool_state.specs.Lent.{Lent, OfNine, nine_fields, nine_turn}
+use Rattle.pool_state.specs.Lent.{OfState, holds, OfStates, becomes}
 use Rattle.pool_state.specs.declared.MemoryAllocator.{MemoryAllocator}
-use Rattle.pool_entries.specs.declared.Slot.{Slot}
-use Rattle.pool_entries.specs.declared.Slot.TheVariants.{At, Full}
-use Rattle.pool_entries.specs.declared.Moving.{Moving}
-use Rattle.pool_entries.specs.declared.Moving.TheVariants.{Done, NoRecord}
+use Rattle.pool_state.specs.declared.RecordIndex.{RecordIndex}
+use Rattle.pool_entries.specs.declared.NoRecord.{NoRecord}
 
 -- the record i, if it is one of n
-abbrev pub slot_of : ℕ → ℕ → Slot
-slot_of n i = pick (ltb i n) (At (record { 0 = i })) Full
+abbrev pub slot_of : ℕ → ℕ → Option RecordIndex
+slot_of n i = pick (ltb i n) (Some (record { 0 = i })) None
 
 -- the range q may stand in r's record and place
 pub record Replaces (n : ℕ) (b : Book) (r q : Range) : Type 0 where
@@ -38,28 +35,28 @@ pub record Drops (n : ℕ) (b : Book) (s : MemoryAllocator) (i : ℕ) (r : Range
   pub member : In r b.chain
   pub number : i ≡ r.number
 
--- the range of record i may go out of some book, and it has gone out of every such book
-abbrev pub DropsSome : ℕ → ℕ → OfNine MutBor
-DropsSome n i = nine_fields (λ s. (b : Book) × (r : Range) × Drops n b s i r)
+-- the range of record i may go out of some book, and it has gone out of every such book; the total stays
+abbrev pub DropsSome : ℕ → ℕ → OfState
+DropsSome n i = holds (λ s. (b : Book) × (r : Range) × Drops n b s i r)
 
-abbrev pub Dropped : ℕ → ℕ → OfNine Lent
-Dropped n i = nine_turn (λ s s'. (b : Book) (r : Range) → Drops n b s i r → Shape n (remove r b) s')
+abbrev pub Dropped : ℕ → ℕ → OfStates
+Dropped n i = becomes (λ s s'. (s'.free_size ≡ s.free_size) × ((b : Book) (r : Range) → Drops n b s i r → Shape n (remove r b) s'))
 
--- q may go into some book, between the records x and y of the chain, and it has gone into every such book
-abbrev pub InsertsSome : ℕ → ℕ → ℕ → Range → OfNine MutBor
-InsertsSome n x y q = nine_fields (λ s. (b : Book) × Inserts n b s x y q)
+-- q may go into some book, between the records x and y of the chain, and it has gone into every such book; the total stays
+abbrev pub InsertsSome : ℕ → ℕ → ℕ → Range → OfState
+InsertsSome n x y q = holds (λ s. (b : Book) × Inserts n b s x y q)
 
-abbrev pub Inserted : ℕ → ℕ → ℕ → Range → OfNine Lent
-Inserted n x y q = nine_turn (λ s s'. (b : Book) → Inserts n b s x y q → Shape n (put q b) s')
+abbrev pub Inserted : ℕ → ℕ → ℕ → Range → OfStates
+Inserted n x y q = becomes (λ s s'. (s'.free_size ≡ s.free_size) × ((b : Book) → Inserts n b s x y q → Shape n (put q b) s'))
 
 -- ---- how a step ends
 
 -- by whether it wants a record and there is none
-abbrev pub moving_of : Bool → Moving
-moving_of true = NoRecord
-moving_of false = Done
+abbrev pub moving_of : Bool → Result (Unit {0}) NoRecord
+moving_of true = Err (record {})
+moving_of false = Ok tt
 
 -- the step that makes b' of the book b ended so, and the state holds what it left
-pub record Leaves (n : ℕ) (wants : Bool) (b b' : Book) (k : Moving) (s : MemoryAllocator) : Type 0 where
+pub record Leaves (n : ℕ) (wants : Bool) (b b' : Book) (k : Result (Unit {0}) NoRecord) (s : MemoryAllocator) : Type 0 where
   pub says : k ≡ moving_of wants
   pub leaves : Holds n (cond wants b b') s

@@ -1,14 +1,15 @@
 -- Giving: which ranges the piece touches, and what each case leaves. Assumes nothing.
 use Prim.Native.Nat.{ℕ, suc, ◌+◌, ◌-◌, ◌<◌, ◌≤◌}
 use mathlib.Core.Bool.{Bool, true, false, cond, ◌&&◌}
-use mathlib.Core.Logic.{◌≢◌, ◌⊎◌, inl, inr, ⊎_elim}
+use mathlib.Core.Logic.{◌≢◌, inl, inr, ⊎_elim}
 use mathlib.Core.List.{List, [], ◌∷◌, ◌++◌}
 use mathlib.Core.Option.{none, some}
 use mathlib.Core.Path.{◌≡◌, refl, sym, ap, ◌∙◌, subst}
 use lib.ListN.{get_or}
 use lib.Dec.{T, eqb, ltb, eqb→eq, eqb_refl}
 use native.Mathlib.Omega.{arith}
-use borrow.Author.Tests.{eq-eqb, ne_eqb, lt-ltb, le-ltb, le-leb, lt-leb}
+use borrow.Author.Tests.{eq-eqb, lt-ltb, le-ltb, le-leb, lt-leb}
+use Rattle.std.specs.Prelude.{Ok, Err}
 use Rattle.linked_lists.specs.Links as links
 use Rattle.linked_lists.proofs.Laws.{same?, true≢false, below?}
 use Rattle.rules.specs.Rules.{top, Range, range, size, Book, sum, total, without, put, remove, lower, upper, alone, joined, given, unused, full}
@@ -19,7 +20,6 @@ use Rattle.rules_laws.proofs.Sums.{sum-append, sum-between, total-put, total-rem
 use Rattle.pool_state.specs.Shown.{at, Shape}
 use Rattle.pool_state.specs.declared.MemoryAllocator.{MemoryAllocator}
 use Rattle.pool_entries.specs.Entries.{Replaces, Inserts, Drops}
-use Rattle.pool_entries.specs.declared.Moving.TheVariants.{Done, NoRecord}
 use Rattle.pool_entries.proofs.Moves.{recount, recounted, done, refused}
 use Rattle.pool_chain.proofs.Neighbours.{pair_left, pair-right, high-starts, Below, below, none_below, Above, above, none_above}
 use Rattle.pool_state.proofs.Walks.{in_left, in_right}
@@ -43,17 +43,6 @@ remove-swap : (r q : Range) (b : Book) → remove r (remove q b) ≡ remove q (r
 unfolding remove
 remove-swap r q b = let e₁ = without-swap r.number q.number b.chain in let e₂ = without-swap r.number q.number b.shelf in
     (λ z. record { chain = e₁ z; shelf = e₂ z })
-
--- ---- the tests
-
-pub ends-test : (i n e a : ℕ) → i < n → a ≢ 0 → eqb e (a - 1) ≡ (ltb i n && eqb (suc e) a)
-ends-test i n e a b d = ⊎_elim
-    (λ (h : suc e ≡ a). rw (lt-ltb i n b, eq-eqb (suc e) a h, eq-eqb e (a - 1) (omega arith)))
-    (λ (h : suc e ≢ a). rw (lt-ltb i n b, ne_eqb (suc e) a h, ne_eqb e (a - 1) (λ q. h (omega arith))))
-    (same? (suc e) a)
-
-pub no_end : (i n e a : ℕ) → i < n → a ≡ 0 → false ≡ (ltb i n && eqb (suc e) a)
-no_end i n e a b d = rw (lt-ltb i n b, ne_eqb (suc e) a (λ q. let v : ⊥ = omega arith in v))
 
 -- ---- totals
 
@@ -236,7 +225,7 @@ module _ {n : ℕ} (small : n ≤ links.none) {s : MemoryAllocator} {x y a t : �
           }
 
       pub low-done : {s' : MemoryAllocator} → Shape n (put low-joined (remove l b)) s'
-          → Joins n b a t Done (recount more s')
+          → Joins n b a t (Ok tt) (recount more s')
       unfolding given joined
       low-done v =
           let w = below-known in let e₁ = lower-is j in let e₂ = upper-none f in let i₁ = w.1 in let i₂ = j.side.number in
@@ -275,7 +264,7 @@ module _ {n : ℕ} (small : n ≤ links.none) {s : MemoryAllocator} {x y a t : �
           }
 
       pub high-done : {s' : MemoryAllocator} → Shape n (put high-joined (remove u b)) s'
-          → Joins n b a t Done (recount more s')
+          → Joins n b a t (Ok tt) (recount more s')
       unfolding given joined
       high-done v =
           let w = above-known in let e₁ = lower-none f in let e₂ = upper_is j in let i₁ = w.2 in let i₂ = j.side.number in
@@ -326,7 +315,7 @@ module _ {n : ℕ} (small : n ≤ links.none) {s : MemoryAllocator} {x y a t : �
         }
 
     pub both-done : {s' : MemoryAllocator} → Shape n (put whole (remove lo (remove hi b))) s'
-        → Joins n b a t Done (recount more s')
+        → Joins n b a t (Ok tt) (recount more s')
     unfolding given joined
     both-done v =
         let w = below-known jb in let w' = above-known ja in let e₁ = lower-is jb in let e₂ = upper_is ja in
@@ -350,7 +339,7 @@ module _ {n : ℕ} (small : n ≤ links.none) {s : MemoryAllocator} {x y a t : �
     wants-full : wants n b a t ≡ full n b
     wants-full = let e₁ = lower-none f in let e₂ = upper-none g in (λ z. alone (e₁ z) (e₂ z) && full n b)
 
-    pub no_record : n ≤ unused n b → Joins n b a t NoRecord s
+    pub no_record : n ≤ unused n b → Joins n b a t (Err (record {})) s
     no_record h = refused n (wants n b a t) b (given n a t b) _ (wants-full ∙ le-leb n (unused n b) h) k.holds
 
     module _ (i : ℕ) (ei : i ≡ unused n b) (bi : i < n) where
@@ -372,7 +361,7 @@ module _ {n : ℕ} (small : n ≤ links.none) {s : MemoryAllocator} {x y a t : �
       }
 
       pub alone-done : {s' : MemoryAllocator} → Shape n (put new b) s'
-          → Joins n b a t Done (recount more s')
+          → Joins n b a t (Ok tt) (recount more s')
       unfolding given joined
       alone-done v =
           let e₁ = lower-none f in let e₂ = upper-none g in

@@ -4,121 +4,97 @@
 ghost use Rattle.std.specs.Prelude.{◌≡◌, ◌&&◌, suc, eqb, ltb, get_or};
 ghost use Rattle.pool_state.specs.Shown.{pool};
 ghost use Rattle.pool_give.specs.Give.{OffersSome, Given};
+ghost use Rattle.pool_state.specs.Lent.{Keeps};
 
-use pool_entries::{Moving, Slot, create_memory_entry, delete_entry, insert};
+use pool_entries::{NoRecord, create_memory_entry, delete_entry, insert};
 use pool_shelf::resize;
-use pool_state::{Address, LISTS, POOL, RecordIndex};
+use pool_state::{Address, Fields, POOL, RecordIndex};
 
 // Whether record i has a range that ends right before the address.
 pub fn ends_before(end: &[u64; POOL], i: RecordIndex, address: Address) -> bool
     ensures { result ≡ (ltb i.0 pool && eqb (suc (get_or end.now i.0 0)) address.0) }
 {
-    let n = i.0 as usize;
-    if POOL <= n {
-        return false;
-    }
-    if address.0 == 0 {
-        return false;
-    }
-    end[n] == address.0 - 1
+    end.get(i.0 as usize)
+        .is_some_and(|last| last.checked_add(1) == Some(address.0))
 }
 
 // Whether record i has a range that starts at the address.
 pub fn starts_at(start: &[u64; POOL], i: RecordIndex, address: Address) -> bool
     ensures { result ≡ (ltb i.0 pool && eqb (get_or start.now i.0 0) address.0) }
 {
-    let n = i.0 as usize;
-    if POOL <= n {
-        return false;
-    }
-    start[n] == address.0
+    start
+        .get(i.0 as usize)
+        .is_some_and(|first| *first == address.0)
 }
 
 // The bytes from a to before t, between the records x and y of the chain, become free, and are joined with the ranges that they touch.
 // In MiniVisor: define_free_memory.
 pub fn define_free_memory(
-    total: &mut u64,
-    first: &mut u16,
-    heads: &mut [u16; LISTS],
-    start: &mut [u64; POOL],
-    end: &mut [u64; POOL],
-    enabled: &mut [bool; POOL],
-    previous: &mut [u16; POOL],
-    next: &mut [u16; POOL],
-    lprev: &mut [u16; POOL],
-    lnext: &mut [u16; POOL],
+    f: &mut Fields<'_>,
     x: RecordIndex,
     y: RecordIndex,
     a: Address,
     t: Address,
-) -> Moving
-    requires { OffersSome pool x.0 y.0 a.0 t.0 total first heads start end enabled previous next lprev lnext }
-    ensures { Given pool x.0 y.0 a.0 t.0 result total first heads start end enabled previous next lprev lnext }
+) -> Result<(), NoRecord>
+    requires { OffersSome pool x.0 y.0 a.0 t.0 f }
+    ensures keeps { Keeps f }
+    ensures does { Given pool x.0 y.0 a.0 t.0 result f }
 {
-    let more = *total + (t.0 - a.0);
-    let high = starts_at(start, y, t);
-    if ends_before(end, x, a) {
+    let more = *f.free_size + (t.0 - a.0);
+    let high = starts_at(f.start, y, t);
+    if ends_before(f.end, x, a) {
         let xn = x.0 as usize;
-        let from = start[xn];
+        let from = f.start[xn];
         if high {
             let yn = y.0 as usize;
-            let last = end[yn];
-            delete_entry(
-                first, heads, start, end, enabled, previous, next, lprev, lnext, y,
-            );
+            let last = f.end[yn];
+            delete_entry(f, y);
             resize(
-                start,
-                end,
-                lprev,
-                lnext,
-                heads,
+                f.start,
+                f.end,
+                f.list_prev,
+                f.list_next,
+                f.free_list,
                 x,
                 Address(from),
                 Address(last),
             );
-            *total = more;
-            return Moving::Done;
+            *f.free_size = more;
+            return Ok(());
         }
         resize(
-            start,
-            end,
-            lprev,
-            lnext,
-            heads,
+            f.start,
+            f.end,
+            f.list_prev,
+            f.list_next,
+            f.free_list,
             x,
             Address(from),
             Address(t.0 - 1),
         );
-        *total = more;
-        return Moving::Done;
+        *f.free_size = more;
+        return Ok(());
     }
     if high {
         let yn = y.0 as usize;
-        let last = end[yn];
-        resize(start, end, lprev, lnext, heads, y, a, Address(last));
-        *total = more;
-        return Moving::Done;
+        let last = f.end[yn];
+        resize(
+            f.start,
+            f.end,
+            f.list_prev,
+            f.list_next,
+            f.free_list,
+            y,
+            a,
+            Address(last),
+        );
+        *f.free_size = more;
+        return Ok(());
     }
-    let slot = create_memory_entry(enabled);
-    let Slot::At(j) = slot else {
-        return Moving::NoRecord;
+    let Some(j) = create_memory_entry(f.enabled) else {
+        return Err(NoRecord);
     };
-    insert(
-        first,
-        heads,
-        start,
-        end,
-        enabled,
-        previous,
-        next,
-        lprev,
-        lnext,
-        x,
-        j,
-        y,
-        a,
-        Address(t.0 - 1),
-    );
-    *total = more;
-    Moving::Done
+    insert(f, x, j, y, a, Address(t.0 - 1));
+    *f.free_size = more;
+    Ok(())
 }

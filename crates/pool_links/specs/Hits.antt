@@ -1,10 +1,10 @@
 -- The answer of a search for a range. Assumes nothing.
-use Rattle.std.proofs.Math.Option.{Option, none, some}
+use Rattle.std.specs.Prelude.{Option, Some, None}
+use Rattle.std.proofs.Math.Option as found
 use Rattle.rules.specs.Rules.{Range}
-use Rattle.pool_links.specs.declared.Hit.{Hit}
-use Rattle.pool_links.specs.declared.Hit.TheVariants as hit
+use Rattle.pool_state.specs.declared.RecordIndex.{RecordIndex}
 
 -- the record of the range that was found
-abbrev pub hit_of : Option Range → Hit
-hit_of none = hit.Nothing
-hit_of (some r) = hit.At (record { 0 = r.number })
+abbrev pub hit_of : found.Option Range → Option RecordIndex
+hit_of found.none = None
+hit_of (found.some r) = Some (record { 0 = r.number })

@@ -17,13 +17,6 @@ pub struct Gap {
     pub after: RecordIndex,
 }
 
-// The record of the range that a search was for.
-#[derive(Clone, Copy)]
-pub enum Hit {
-    At(RecordIndex),
-    Nothing,
-}
-
 // The link of record i is set, where there is such a record.
 // In MiniVisor: set_prev_entry, set_next_entry, unset_prev_entry, unset_next_entry.
 pub fn point(links: &mut [u16; POOL], i: RecordIndex, to: RecordIndex)
@@ -80,7 +73,7 @@ pub fn link_between(
 pub fn choose(x: RecordIndex, y: RecordIndex, a: RecordIndex, b: RecordIndex) -> RecordIndex
     ensures { result.0 ≡ pick (eqb x.0 y.0) a.0 b.0 }
 {
-    if x.0 == y.0 {
+    if x == y {
         return a;
     }
     b

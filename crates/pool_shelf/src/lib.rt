@@ -11,7 +11,7 @@ ghost use Rattle.pool_shelf.specs.Fits.{meant};
 ghost use Rattle.pool_shelf.specs.Shelf.{Removes, Places, Resizes, Removed, Placed, Resized};
 ghost use Rattle.pool_links.specs.Hits.{hit_of};
 
-use pool_links::{Gap, Hit, choose, link_between, link_of, unlink};
+use pool_links::{Gap, choose, link_between, link_of, unlink};
 use pool_state::{Address, LISTS, NONE, POOL, RecordIndex};
 use rounding::{align_address_and_available_size, size_to_page_order};
 
@@ -49,18 +49,12 @@ pub fn find_gap(
     while cur.0 != NONE {
         let z = get_size(start, end, cur);
         if s <= z {
-            return Gap {
-                before: before,
-                after: cur,
-            };
+            return Gap { before, after: cur };
         }
         before = cur;
         cur = link_of(next, cur);
     }
-    Gap {
-        before: before,
-        after: cur,
-    }
+    Gap { before, after: cur }
 }
 
 // Record i goes out of the shelf.
@@ -173,25 +167,21 @@ pub fn find_fit(
     spare: bool,
     size: u64,
     order: u64,
-) -> Hit
+) -> Option<RecordIndex>
     requires by_index { (l : List Range) × (prev : List ℕ) × Shelved pool l start.now end.now prev next.now heads.now }
     requires size_nonzero { (0 < size) × (order ≤ 63) }
     ensures { (l : List Range) (prev : List ℕ) → Shelved pool l start.now end.now prev next.now heads.now → result ≡ hit_of (find (λ r. serves spare (fit size order r)) l) }
 {
-    let own = size_to_page_order(size);
-    let mut hit = Hit::Nothing;
-    let mut k = own.0 as usize;
-    'search: while k < LISTS {
-        let mut cur = RecordIndex(heads[k]);
+    let own = size_to_page_order(size).0 as usize;
+    for head in &heads[own..] {
+        let mut cur = RecordIndex(*head);
         while cur.0 != NONE {
             let fit = fit_at(start, end, cur, size, order);
             if can_be_served(fit, spare) {
-                hit = Hit::At(cur);
-                break 'search;
+                return Some(cur);
             }
             cur = link_of(next, cur);
         }
-        k = k + 1;
     }
-    hit
+    None
 }

@@ -2,3 +2,4 @@
 pub mod Walks
 pub mod States
 pub mod Book
+pub mod Places

@@ -9,6 +9,7 @@ use lib.Seq.{append_snoc}
 use native.Mathlib.Omega.{arith}
 use native.Mathlib.Numerals.{add-one}
 use borrow.Author.Tests.{lt-ltb, le-ltb, le-leb, lt-leb}
+use Rattle.std.specs.Prelude.{Ok, Err}
 use Rattle.linked_lists.specs.Links.{none, last_from, after, Listed}
 use Rattle.linked_lists.proofs.Laws.{after-mid, last_snoc}
 use Rattle.rules.specs.Rules.{Range, range, start_of, size, Book, total, before, without, put, remove, taken, unused, full}
@@ -21,7 +22,6 @@ use Rattle.pool_shelf.specs.Shelf.{Resizes}
 use Rattle.pool_entries.specs.Entries.{Replaces, Inserts, Drops}
 use Rattle.pool_state.specs.declared.MemoryAllocator.{MemoryAllocator}
 use Rattle.pool_take.specs.Take.{Asks, refuses, Takes}
-use Rattle.pool_entries.specs.declared.Moving.TheVariants.{Done, NoRecord}
 use Rattle.pool_state.proofs.Walks.{numbers-append, in_left, in_either, part, pair-low, pair-high}
 use Rattle.pool_entries.proofs.Books.{replace-chain, resized, swap-resizes, swap-shape}
 use Rattle.pool_entries.proofs.Moves.{recount, recounted, done, refused}
@@ -104,7 +104,7 @@ module _ {n : ℕ} (small : n ≤ none) {m : MemoryAllocator} {i a t : ℕ} {b :
 
   pub whole-done : get_or m.start i 0 ≡ a → t ≡ get_or m.end i 0 + 1
       → {m' : MemoryAllocator} → Shape n (remove r b) m'
-      → Takes n b r a t Done (recount left m')
+      → Takes n b r a t (Ok tt) (recount left m')
   whole-done ea et v =
       let e = total-remove n r b shape.sound k.member in
       let q = from_is in let q' = last-is in
@@ -140,7 +140,7 @@ module _ {n : ℕ} (small : n ≤ none) {m : MemoryAllocator} {i a t : ℕ} {b :
 
   pub high-done : get_or m.start i 0 ≡ a → (t ≡ get_or m.end i 0 + 1 → ⊥)
       → {m' : MemoryAllocator} → Shape n (put (range i t (get_or m.end i 0)) (remove r b)) m'
-      → Takes n b r a t Done (recount left m')
+      → Takes n b r a t (Ok tt) (recount left m')
   high-done ea et v =
       let w = from_is in let w' = last-is in
       let d : t ≢ r.last + 1 = λ h. et (h ∙ ap (λ (x : ℕ). x + 1) (sym last-is)) in
@@ -164,7 +164,7 @@ module _ {n : ℕ} (small : n ≤ none) {m : MemoryAllocator} {i a t : ℕ} {b :
     pub high_taken : {start' end' heads' lprev' lnext' : List ℕ}
         → start' ≡ set m.start i t → end' ≡ set m.end i (get_or m.end i 0)
         → Shelved n (before size (range i t (get_or m.end i 0)) (without i b.shelf)) start' end' lprev' lnext' heads'
-        → Takes n b r a t Done (recount left (resized m heads' start' end' lprev' lnext'))
+        → Takes n b r a t (Ok tt) (recount left (resized m heads' start' end' lprev' lnext'))
     high_taken es ee v = high-done ea et (piece-shape t (get_or m.end i 0) high-ends.0 high-ends.1 high-ends.2 es ee v)
 
   module _ (ea : get_or m.start i 0 ≡ a → ⊥) where
@@ -188,7 +188,7 @@ module _ {n : ℕ} (small : n ≤ none) {m : MemoryAllocator} {i a t : ℕ} {b :
 
   pub low-done : (get_or m.start i 0 ≡ a → ⊥) → t ≡ get_or m.end i 0 + 1
       → {m' : MemoryAllocator} → Shape n (put (range i (get_or m.start i 0) (a - 1)) (remove r b)) m'
-      → Takes n b r a t Done (recount left m')
+      → Takes n b r a t (Ok tt) (recount left m')
   low-done ea et v =
       let w = from_is in let w' = last-is in
       let d : r.start ≢ a = λ h. ea (from_is ∙ h) in
@@ -213,7 +213,7 @@ module _ {n : ℕ} (small : n ≤ none) {m : MemoryAllocator} {i a t : ℕ} {b :
     pub both_high : t ≤ r.last
     both_high = let d : t ≢ r.last + 1 = λ h. et (h ∙ ap (λ (x : ℕ). x + 1) (sym last-is)) in omega (arith, k.to)
 
-    pub no_record : n ≤ unused n b → Takes n b r a t NoRecord m
+    pub no_record : n ≤ unused n b → Takes n b r a t (Err (record {})) m
     no_record f = refused n (refuses n b r a t) b (taken n r a t b) _ (refuse-both n b r a t both-low both_high ∙ le-leb n (unused n b) f) k.holds
 
     module _ (j : ℕ) (ej : j ≡ unused n b) (bj : j < n) where
@@ -285,7 +285,7 @@ module _ {n : ℕ} (small : n ≤ none) {m : MemoryAllocator} {i a t : ℕ} {b :
           → Inserts n b₁ (resized m heads' start' end' lprev' lnext') i y high
       both-inserts ey v = record { shape = v; good = high-good; apart = high-apart; gap = rw ey (high-gap v) }
 
-      pub both-done : {m' : MemoryAllocator} → Shape n (put high b₁) m' → Takes n b r a t Done (recount left m')
+      pub both-done : {m' : MemoryAllocator} → Shape n (put high b₁) m' → Takes n b r a t (Ok tt) (recount left m')
       both-done v =
           let w = from_is in let w' = last-is in
           let h₁ = both-low in let h₂ = both_high in

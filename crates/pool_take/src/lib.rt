@@ -3,93 +3,77 @@
 
 ghost use Rattle.pool_state.specs.Shown.{pool};
 ghost use Rattle.pool_take.specs.Take.{AsksSome, Taken};
+ghost use Rattle.pool_state.specs.Lent.{Keeps};
 
-use pool_entries::{Moving, Slot, create_memory_entry, delete_entry, insert};
+use pool_entries::{NoRecord, create_memory_entry, delete_entry, insert};
 use pool_links::link_of;
 use pool_shelf::resize;
-use pool_state::{Address, LISTS, POOL, RecordIndex};
+use pool_state::{Address, Fields, RecordIndex};
 
 // The bytes from a to before t are taken out of the range in record i; in place.
 // In MiniVisor: define_used_memory.
 pub fn define_used_memory(
-    total: &mut u64,
-    first: &mut u16,
-    heads: &mut [u16; LISTS],
-    start: &mut [u64; POOL],
-    end: &mut [u64; POOL],
-    enabled: &mut [bool; POOL],
-    previous: &mut [u16; POOL],
-    next: &mut [u16; POOL],
-    lprev: &mut [u16; POOL],
-    lnext: &mut [u16; POOL],
+    f: &mut Fields<'_>,
     i: RecordIndex,
     a: Address,
     t: Address,
-) -> Moving
-    requires { AsksSome pool i.0 a.0 t.0 total first heads start end enabled previous next lprev lnext }
-    ensures { Taken pool i.0 a.0 t.0 result total first heads start end enabled previous next lprev lnext }
+) -> Result<(), NoRecord>
+    requires { AsksSome pool i.0 a.0 t.0 f }
+    ensures keeps { Keeps f }
+    ensures does { Taken pool i.0 a.0 t.0 result f }
 {
     let n = i.0 as usize;
-    let from = start[n];
-    let last = end[n];
-    let left = *total - (t.0 - a.0);
+    let from = f.start[n];
+    let last = f.end[n];
+    let left = *f.free_size - (t.0 - a.0);
     if from == a.0 {
         if t.0 == last + 1 {
-            delete_entry(
-                first, heads, start, end, enabled, previous, next, lprev, lnext, i,
-            );
-            *total = left;
-            return Moving::Done;
+            delete_entry(f, i);
+            *f.free_size = left;
+            return Ok(());
         }
-        resize(start, end, lprev, lnext, heads, i, t, Address(last));
-        *total = left;
-        return Moving::Done;
+        resize(
+            f.start,
+            f.end,
+            f.list_prev,
+            f.list_next,
+            f.free_list,
+            i,
+            t,
+            Address(last),
+        );
+        *f.free_size = left;
+        return Ok(());
     }
     if t.0 == last + 1 {
         resize(
-            start,
-            end,
-            lprev,
-            lnext,
-            heads,
+            f.start,
+            f.end,
+            f.list_prev,
+            f.list_next,
+            f.free_list,
             i,
             Address(from),
             Address(a.0 - 1),
         );
-        *total = left;
-        return Moving::Done;
+        *f.free_size = left;
+        return Ok(());
     }
-    let slot = create_memory_entry(enabled);
-    let Slot::At(j) = slot else {
-        return Moving::NoRecord;
+    let Some(j) = create_memory_entry(f.enabled) else {
+        return Err(NoRecord);
     };
     resize(
-        start,
-        end,
-        lprev,
-        lnext,
-        heads,
+        f.start,
+        f.end,
+        f.list_prev,
+        f.list_next,
+        f.free_list,
         i,
         Address(from),
         Address(a.0 - 1),
     );
-    let y = link_of(next, i);
-    insert(
-        first,
-        heads,
-        start,
-        end,
-        enabled,
-        previous,
-        next,
-        lprev,
-        lnext,
-        i,
-        j,
-        y,
-        t,
-        Address(last),
-    );
-    *total = left;
-    Moving::Done
+    let y = link_of(f.next, i);
+    insert(f, i, j, y, t, Address(last));
+    *f.free_size = left;
+    Ok(())
 }

@@ -6,10 +6,10 @@ use Rattle.check_meaning.proofs.Owned.{owned-sized}
 use Rattle.core_serve.proofs.Judged.{book-held, sound-judged}
 use Rattle.core_serve.proofs.serve_sound.Goals as goal
 
-pub serve_in-answer-requires : goal.serve_in-answer-requires
-serve_in-answer-requires c =
+pub serve_fields-answer-requires : goal.serve_fields-answer-requires
+serve_fields-answer-requires c =
     (_, book-held pool (lit≤ tt) _ (owned-sized _ _ c.well_formed.0) c.requires)
 
 pub returns : goal.returns
 returns c =
-    sound-judged pool (lit≤ tt) _ (step pool (call_of c.args.request)) _ (owned-sized _ _ c.well_formed.0) c.requires c.serve_in-answer.ensures
+    sound-judged pool (lit≤ tt) _ (step pool (call_of c.args.request)) _ (owned-sized _ _ c.well_formed.0) c.requires c.serve_fields-answer.ensures.does

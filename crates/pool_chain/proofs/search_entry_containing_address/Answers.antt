@@ -4,10 +4,10 @@ use mathlib.Core.List.{List}
 use native.Mathlib.Omega.{arith}
 use lib.Dec.{lit≤}
 use lib.ListN.{get_or}
+use Rattle.std.specs.Prelude.{Some}
 use Rattle.rules.specs.Rules.{Range, start_of}
 use Rattle.pool_state.specs.Shown.{pool, Gapped}
 use Rattle.pool_links.specs.Hits.{hit_of}
-use Rattle.pool_links.specs.declared.Hit.TheVariants.{At}
 use Rattle.pool_chain.specs.Chain.{Ordered}
 use Rattle.pool_chain.proofs.Neighbours.{Below, below, none-contains, short-contains, long-contains}
 use Rattle.pool_chain.proofs.search_entry_containing_address.Goals.{After-i-1, Else-i}
@@ -45,5 +45,5 @@ returns-then-end-n c l o =
 pub returns : goal.returns
 returns c l o =
     let e = last-is (goal.at.returns c).Else-i l o in
-    ap At (ap (λ (i : _). record { 0 = i }) (low (goal.at.returns c).Else-i l o).number)
+    ap Some (ap (λ (i : _). record { 0 = i }) (low (goal.at.returns c).Else-i l o).number)
     ∙ ap hit_of (sym (long-contains pool (lit≤ tt) l o.runs.good o.apart _ _ _ _ c.requires.address_lt_past.0 (gapped (goal.at.returns c).After-i-1 l o) (low (goal.at.returns c).Else-i l o) (omega (arith, c.if-end-n.false))))

@@ -1,4 +1,4 @@
-use Prim.Native.Nat.{◌-◌, ◌≤◌}
+use Prim.Native.Nat.{◌-◌}
 use mathlib.Core.Path.{◌≡◌}
 use mathlib.Core.List.{List}
 use Rattle.rules.specs.Rules.{Range, lowest}
@@ -7,8 +7,4 @@ use Rattle.pool_entries.proofs.create_memory_entry.Given as goal
 
 abbrev pub invariant-loop-i : goal.invariant-loop-i
 invariant-loop-i l =
-    (l.i ≤ pool) × ((ls : List Range) → Marked pool ls l.enabled → lowest pool 0 ls ≡ lowest (pool - l.i) l.i ls)
-
-abbrev pub decreases-loop-i : goal.decreases-loop-i
-decreases-loop-i l =
-    pool - l.i
+    (ls : List Range) → Marked pool ls l.enabled → lowest pool 0 ls ≡ lowest (pool - l.i) l.i ls

@@ -14,7 +14,8 @@ loop-cur-init c l t e =
     walk-starts pool (lit≤ tt) size l _ _ _ t _ _ e
 
 -- in a turn, the walk stands at a range of the list
-turn : (c : In-loop-cur) → let x = c.args in let w = c.loop-cur in (l : List Range) (t : Runs pool l x.start.now x.end.now x.next.now) → x.first.0 ≡ head (numbers l) → Stands pool (lit≤ tt) size l _ _ _ t x.s w.before.0 w.cur.0
+turn : (c : In-loop-cur) → let x = c.args in let w = c.loop-cur in (l : List Range) (t : Runs pool l x.start.now x.end.now x.next.now) → x.first.0 ≡ head (numbers l)
+    → Stands pool (lit≤ tt) size l _ _ _ t x.s w.before.0 w.cur.0
 turn c l t e = stands pool (lit≤ tt) size l _ _ _ t _ _ _ (c.loop-cur.invariant l t e) c.loop-cur-test.true
 
 pub get_size-z-requires : goal.get_size-z-requires

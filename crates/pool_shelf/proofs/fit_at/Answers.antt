@@ -8,7 +8,8 @@ use Rattle.pool_shelf.proofs.fit_at.Goals.{After-align_address_and_available_siz
 use Rattle.pool_shelf.proofs.fit_at.Goals as goal
 
 -- what remains, of the range itself
-remains : (c : After-align_address_and_available_size-left) → let x = c.args in let r = at x.start.now x.end.now x.i.0 in c.align_address_and_available_size-left.result.size ≡ r.start + size r - up x.order r.start
+remains : (c : After-align_address_and_available_size-left) → let x = c.args in let r = at x.start.now x.end.now x.i.0 in
+    c.align_address_and_available_size-left.result.size ≡ r.start + size r - up x.order r.start
 remains c =
     let x = c.args in
     let s = get_or x.start.now x.i.0 0 in

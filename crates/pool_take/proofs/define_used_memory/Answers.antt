@@ -7,12 +7,12 @@ use Rattle.pool_take.proofs.Pieces.{high-resizes, high_taken, low-proper, low-re
 use Rattle.pool_entries.proofs.Unused.{unused-is, slot-full, slot_at}
 use Rattle.pool_take.proofs.define_used_memory.Goals as goal
 
-pub bounds-start-n : goal.bounds-start-n
-bounds-start-n c =
+pub bounds-f-n : goal.bounds-f-n
+bounds-f-n c =
     let u = c.requires in below (lit≤ tt) u.2
 
-pub bounds-end-n : goal.bounds-end-n
-bounds-end-n c =
+pub bounds-f-n-2 : goal.bounds-f-n-2
+bounds-f-n-2 c =
     let u = c.requires in below (lit≤ tt) u.2
 
 pub overflow_sub-left-2 : goal.overflow_sub-left-2
@@ -25,19 +25,19 @@ overflow_add-last c =
 
 pub delete_entry-requires : goal.delete_entry-requires
 delete_entry-requires c =
-    let u = c.requires in (_, (u.0, u.1, drops (lit≤ tt) u.2))
+    let u = c.requires in (u.0, u.1, drops (lit≤ tt) u.2)
 
-pub returns-then-t-last : goal.returns-then-t-last
-returns-then-t-last c b r k =
+pub returns-then-t-last-clause-does : goal.returns-then-t-last-clause-does
+returns-then-t-last-clause-does c b r k =
     whole-done (lit≤ tt) k c.if-from-a.true c.if-t-last.true
-    (c.delete_entry.ensures _ b r (drops (lit≤ tt) k))
+    (c.delete_entry.ensures.does.1 b r (drops (lit≤ tt) k))
 
 pub resize-requires : goal.resize-requires
 resize-requires c =
     let u = c.requires in (u.0.shelf, high-resizes (lit≤ tt) u.2 c.if-from-a.true c.if-t-last.false)
 
-pub returns-then-from-a : goal.returns-then-from-a
-returns-then-from-a c b r k =
+pub returns-then-from-a-clause-does : goal.returns-then-from-a-clause-does
+returns-then-from-a-clause-does c b r k =
     high_taken (lit≤ tt) k c.if-from-a.true c.if-t-last.false c.resize.ensures.start_value.0 c.resize.ensures.start_value.1
     (c.resize.ensures.resized b.shelf (high-resizes (lit≤ tt) k c.if-from-a.true c.if-t-last.false))
 
@@ -53,16 +53,16 @@ pub resize-requires-then-t-last-2 : goal.resize-requires-then-t-last-2
 resize-requires-then-t-last-2 c =
     let u = c.requires in (u.0.shelf, low-resizes (lit≤ tt) u.2 c.if-from-a.false)
 
-pub returns-then-t-last-2 : goal.returns-then-t-last-2
-returns-then-t-last-2 c b r k =
+pub returns-then-t-last-2-clause-does : goal.returns-then-t-last-2-clause-does
+returns-then-t-last-2-clause-does c b r k =
     low-done (lit≤ tt) k c.if-from-a.false c.if-t-last-2.true
     (low-shape (lit≤ tt) k c.if-from-a.false c.resize-then-t-last-2.ensures.start_value.0 c.resize-then-t-last-2.ensures.start_value.1
     (c.resize-then-t-last-2.ensures.resized b.shelf (low-resizes (lit≤ tt) k c.if-from-a.false)))
 
-pub returns-in_default : goal.returns-in_default
-returns-in_default c b r k =
+pub returns-in_default-clause-does : goal.returns-in_default-clause-does
+returns-in_default-clause-does c b r k =
     no_record (lit≤ tt) k c.if-from-a.false c.if-t-last-2.false
-    (rw (unused-is pool b) at (slot-full pool (lowest pool 0 b.chain) (sym c.in_default.is ∙ c.create_memory_entry-slot.ensures b.chain k.holds.shape.kept.marked)))
+    (rw (unused-is pool b) at (slot-full pool (lowest pool 0 b.chain) (sym c.in_default.is ∙ c.create_memory_entry.ensures b.chain k.holds.shape.kept.marked)))
 
 pub overflow_sub-a-2 : goal.overflow_sub-a-2
 overflow_sub-a-2 c =
@@ -79,20 +79,20 @@ link_of-y-requires c =
 pub insert-requires : goal.insert-requires
 insert-requires c =
     let u = c.requires in
-    let f = slot_at pool _ _ (sym c.in-At.is ∙ c.create_memory_entry-slot.ensures u.0.chain u.2.holds.shape.kept.marked) in
+    let f = slot_at pool _ _ (sym c.in-Some.is ∙ c.create_memory_entry.ensures u.0.chain u.2.holds.shape.kept.marked) in
     let ej = f.0 ∙ unused-is pool u.0 in
     let bj = rw (← f.0) at f.1 in
     let v = low-shape (lit≤ tt) u.2 c.if-from-a.false c.resize-2.ensures.start_value.0 c.resize-2.ensures.start_value.1
     (c.resize-2.ensures.resized u.0.shelf (low-resizes (lit≤ tt) u.2 c.if-from-a.false)) in
     let w = both-inserts (lit≤ tt) u.2 c.if-from-a.false c.if-t-last-2.false _ ej bj c.link_of-y.ensures v in
-    (_, (_, w))
+    (_, w)
 
-pub returns : goal.returns
-returns c b r k =
-    let f = slot_at pool _ _ (sym c.in-At.is ∙ c.create_memory_entry-slot.ensures b.chain k.holds.shape.kept.marked) in
+pub returns-clause-does : goal.returns-clause-does
+returns-clause-does c b r k =
+    let f = slot_at pool _ _ (sym c.in-Some.is ∙ c.create_memory_entry.ensures b.chain k.holds.shape.kept.marked) in
     let ej = f.0 ∙ unused-is pool b in
     let bj = rw (← f.0) at f.1 in
     let v = low-shape (lit≤ tt) k c.if-from-a.false c.resize-2.ensures.start_value.0 c.resize-2.ensures.start_value.1
     (c.resize-2.ensures.resized b.shelf (low-resizes (lit≤ tt) k c.if-from-a.false)) in
     let w = both-inserts (lit≤ tt) k c.if-from-a.false c.if-t-last-2.false _ ej bj c.link_of-y.ensures v in
-    both-done (lit≤ tt) k c.if-from-a.false c.if-t-last-2.false _ ej bj (c.insert.ensures _ _ w)
+    both-done (lit≤ tt) k c.if-from-a.false c.if-t-last-2.false _ ej bj (c.insert.ensures.does.1 _ w)
