@@ -1,17 +1,13 @@
 -- One turn of the loops that write a number and read one. Assumes nothing.
 use mathlib.Core.Path.{◌≡◌}
-use mathlib.Core.List.{List, ◌++◌, append_assoc, append-nil}
+use mathlib.Core.List.{List, ◌++◌, append_assoc}
 use Prim.Native.Nat.{ℕ, zero, suc, ◌+◌, ◌-◌, ◌*◌, ◌/◌, ◌%◌, ◌^◌, ◌≤◌, ◌<◌}
 use native.Mathlib.Nat.{pow-suc, pow-le-pow_right}
 use native.Mathlib.Numerals.{add-one, sub-one}
 use native.Mathlib.Omega.{arith}
 use lib.ListN.{length, drop, set, get_or, length-set}
-use lib.Seq.{drop-length, drop-cons, get_or-set_same, drop-set-lt}
+use lib.Seq.{drop-cons, get_or-set_same, drop-set-lt}
 use Rattle.bytes_be.specs.Numbers.{be, more}
-
--- a number of k bytes is to come, over all of the list
-pub put-start : (l : List ℕ) (k x : ℕ) → length l ≡ k → be k x ++ drop k l ≡ be (length l) x
-put-start l k x h = rw (← h, drop-length, append-nil)
 
 -- the last byte of a number of i bytes is put, and the i - 1 bytes before it are to come
 pub put-before : (i x : ℕ) (l : List ℕ) → 0 < i → i ≤ length l → be (i - 1) (x / 256) ++ drop (i - 1) (set l (i - 1) (x % 256)) ≡ be i x ++ drop i l

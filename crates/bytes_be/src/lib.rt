@@ -9,9 +9,7 @@ pub fn put_be(part: &mut [u8], x: u64)
     ensures { part.new ≡ be (length part.old) x }
 {
     let mut rest = x;
-    let mut i = part.len();
-    while i > 0 {
-        i -= 1;
+    for i in (0..part.len()).rev() {
         part[i] = (rest % 256) as u8;
         rest = rest / 256;
     }
@@ -23,9 +21,7 @@ pub fn put_word(part: &mut [u8], x: u64)
     ensures { part.new ≡ be (length part.old) x }
 {
     let mut left = x;
-    let mut i: usize = 8;
-    while i > 0 {
-        i -= 1;
+    for i in (0..8).rev() {
         part[i] = (left % 256) as u8;
         left = left / 256;
     }
@@ -37,11 +33,9 @@ pub fn read_be(part: &[u8]) -> u64
     ensures value { result ≡ number part.now }
     ensures fits { result < 256 ^ length part.now }
 {
-    let mut x: u64 = 0;
-    let mut i = 0;
-    while i < part.len() {
-        x = x * 256 + wide(part[i]);
-        i += 1;
+    let mut x = 0;
+    for byte in part {
+        x = x * 256 + *byte as u64;
     }
     x
 }
@@ -51,11 +45,9 @@ pub fn read_word(part: &[u8]) -> u64
     requires { length part.now ≡ 8 }
     ensures { result ≡ number part.now }
 {
-    let mut x: u64 = 0;
-    let mut i: usize = 0;
-    while i < 8 {
-        x = x * 256 + wide(part[i]);
-        i += 1;
+    let mut x = 0;
+    for i in 0..8 {
+        x = x * 256 + part[i] as u64;
     }
     x
 }
@@ -66,11 +58,5 @@ pub fn read_pair(part: &[u8]) -> u64
     ensures value { result ≡ number part.now }
     ensures fits { result < 256 ^ 2 }
 {
-    wide(part[0]) * 256 + wide(part[1])
-}
-
-fn wide(b: u8) -> u64
-    ensures { result ≡ b }
-{
-    b as u64
+    part[0] as u64 * 256 + part[1] as u64
 }

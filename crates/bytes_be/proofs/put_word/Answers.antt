@@ -1,13 +1,9 @@
-use mathlib.Core.Path.{◌≡◌, refl, ◌∙◌}
+use mathlib.Core.Path.{◌≡◌, ◌∙◌}
 use native.Mathlib.Omega.{arith}
 use lib.ListN.{length-set}
 use Rattle.bytes_be.specs.Numbers.{be}
-use Rattle.bytes_be.proofs.Loops.{put-start, put-before}
+use Rattle.bytes_be.proofs.Loops.{put-before}
 use Rattle.bytes_be.proofs.put_word.Goals as goal
-
-pub loop-i-init : goal.loop-i-init
-loop-i-init c =
-    (omega arith, (refl, put-start c.args.part.now 8 c.args.x c.requires))
 
 pub loop-i-preserved : goal.loop-i-preserved
 loop-i-preserved c =

@@ -1,13 +1,9 @@
 use mathlib.Core.Path.{◌≡◌}
-use Prim.Native.Nat.{◌≤◌, ◌<◌, ◌-◌, ◌^◌}
-use lib.ListN.{length, drop}
+use Prim.Native.Nat.{◌<◌, ◌^◌}
+use lib.ListN.{drop}
 use Rattle.bytes_be.specs.Numbers.{more}
 use Rattle.bytes_be.proofs.read_be.Given as goal
 
-abbrev pub invariant-loop-i : goal.invariant-loop-i
-invariant-loop-i l =
-    (l.i ≤ length l.part) × ((l.x < 256 ^ l.i) × (more l.x (drop l.i l.part) ≡ more 0 l.part))
-
-abbrev pub decreases-loop-i : goal.decreases-loop-i
-decreases-loop-i l =
-    length l.part - l.i
+abbrev pub invariant-loop-byte : goal.invariant-loop-byte
+invariant-loop-byte l =
+    (l.x < 256 ^ l.byte-index) × (more l.x (drop l.byte-index l.part) ≡ more 0 l.part)

@@ -1,5 +1,5 @@
 use mathlib.Core.Path.{◌≡◌}
-use Prim.Native.Nat.{◌≤◌, ◌<◌, ◌-◌, ◌^◌}
+use Prim.Native.Nat.{◌≤◌, ◌<◌, ◌^◌}
 use lib.ListN.{length, drop}
 use Rattle.bytes_be.specs.Numbers.{more}
 use Rattle.bytes_be.proofs.read_word.Given as goal
@@ -7,7 +7,3 @@ use Rattle.bytes_be.proofs.read_word.Given as goal
 abbrev pub invariant-loop-i : goal.invariant-loop-i
 invariant-loop-i l =
     (l.i ≤ length l.part) × ((l.x < 256 ^ l.i) × (more l.x (drop l.i l.part) ≡ more 0 l.part))
-
-abbrev pub decreases-loop-i : goal.decreases-loop-i
-decreases-loop-i l =
-    8 - l.i
