@@ -2,6 +2,7 @@
 use Prim.Native.Nat.{ℕ, ◌≤◌}
 use mathlib.Core.Bool.{Bool, true, false, cond}
 use mathlib.Core.Path.{◌≡◌, refl, sym, ap, ◌∙◌}
+use Rattle.std.specs.Prelude.{Ok, Err}
 use Rattle.linked_lists.specs.Links.{none}
 use Rattle.rules.specs.Rules.{Book, Answer, total}
 use lib.Dec.{eqb}
@@ -13,8 +14,8 @@ use Rattle.pool_state.proofs.States.{holds-state}
 use Rattle.pool_state.proofs.Book.{sound-holds}
 use Rattle.calls.specs.Calls.{number_of, answer_of}
 use Rattle.calls.specs.Answers.{Answers}
-use Rattle.calls.specs.declared.Answer as result
-use Rattle.calls.specs.declared.Answer.TheVariants.{Accepted, NoEntry, InvalidEntry, NoMemory, InvalidRequest}
+use Rattle.calls.specs.Calls as result
+use Rattle.calls.specs.declared.MemoryError.TheVariants.{NoEntry, InvalidEntry, NoMemory, InvalidRequest}
 use Rattle.calls.specs.declared.Outcome.{Outcome}
 use Rattle.calls.proofs.Numbers.{answer-is}
 use Rattle.account_state.specs.Account.{account, SoundAccount, is_sound_lem}
@@ -39,7 +40,7 @@ module _ (n : ℕ) (low : ℕ) (w : Answer) (k : result.Answer) (s : MemoryAlloc
 zero_same : (k x : ℕ) → eqb (number_of (answer_of k x)) 0 ≡ eqb k 0
 zero_same k x = go (eqb k 0) (eqb k 1) (eqb k 2) (eqb k 3)
   where
-    go : (p q r s : Bool) → eqb (number_of (cond p (Accepted (record { 0 = x })) (cond q NoEntry (cond r InvalidEntry (cond s NoMemory InvalidRequest))))) 0 ≡ p
+    go : (p q r s : Bool) → eqb (number_of (cond {A = result.Answer} p (Ok (record { 0 = x })) (cond q (Err NoEntry) (cond r (Err InvalidEntry) (cond s (Err NoMemory) (Err InvalidRequest)))))) 0 ≡ p
     go true q r s = refl
     go false true r s = refl
     go false false true s = refl
@@ -47,9 +48,9 @@ zero_same k x = go (eqb k 0) (eqb k 1) (eqb k 2) (eqb k 3)
     go false false false false = refl
 
 module _ (n : ℕ) (a : Account) (rule : Book → Answer) where
-  pub unsound-judged : is_sound_lem n a ≡ false → record { answer = InvalidEntry; state = a } ≡ judged n rule a
+  pub unsound-judged : is_sound_lem n a ≡ false → record { answer = Err InvalidEntry; state = a } ≡ judged n rule a
   unfolding judged
-  unsound-judged e = sym (ap (λ (c : Bool). cond c (held n a.lowest (rule (book_of n a.ranges))) (record { answer = InvalidEntry; state = a })) e)
+  unsound-judged e = sym (ap (λ (c : Bool). cond c (held n a.lowest (rule (book_of n a.ranges))) (record { answer = Err InvalidEntry; state = a })) e)
 
   pub passed-judged : is_sound_lem n a ≡ true → judged n rule a ≡ held n a.lowest (rule (book_of n a.ranges))
   unfolding judged

@@ -5,7 +5,7 @@ use mathlib.Core.Path.{◌≡◌, ap, ◌∙◌}
 use Rattle.linked_lists.specs.Links.{none}
 use Rattle.pool_state.proofs.Book.{sound-holds}
 use Rattle.check_meaning.specs.Paragraph.{Sized}
-use Rattle.calls.specs.declared.Answer.TheVariants.{InvalidEntry}
+use Rattle.calls.specs.declared.MemoryError.TheVariants.{InvalidEntry}
 use Rattle.core_accounts.specs.Accounts.{counted, refused}
 use Rattle.account_state.specs.Account.{is_sound_lem}
 use Rattle.account_state.specs.declared.Account.{Account}

@@ -2,8 +2,8 @@
 use Rattle.std.specs.Prelude.{ℕ, cond}
 use Rattle.rules.specs.Rules as rules
 use Rattle.pool_state.specs.Sound.{book_of}
-use Rattle.calls.specs.declared.Answer.TheVariants.{InvalidEntry}
-use Rattle.calls.specs.declared.Counted.{Counted}
+use Rattle.calls.specs.declared.MemoryError.TheVariants.{InvalidEntry}
+use Rattle.calls.specs.Calls.{Counted}
 use Rattle.core_accounts.specs.Accounts.{counted, refused}
 use Rattle.account_state.specs.Account.{is_sound_lem}
 use Rattle.account_state.specs.declared.Account.{Account}

@@ -9,7 +9,7 @@ ghost use Rattle.account_calls.specs.Made.{made, allocate_of, reserve_of, free_o
 ghost use Rattle.account_calls.specs.Accounts.{total_of, lowest_of};
 
 use account_state::{Account, Entered, NEVER, is_sound, noted};
-use calls::{Answer, Counted, Request};
+use calls::{Counted, MemoryError, Request};
 use core_serve::serve_sound;
 use pool_state::Address;
 
@@ -43,7 +43,7 @@ pub fn serve(a: Account, request: Request) -> Entered
         };
     }
     Entered {
-        answer: Answer::InvalidEntry,
+        answer: Err(MemoryError::InvalidEntry),
         state: a,
     }
 }
@@ -75,15 +75,9 @@ pub fn total(a: Account) -> Counted
 {
     if is_sound(a) {
         let ranges = a.ranges;
-        return Counted {
-            answer: Answer::Accepted(Address(0)),
-            value: ranges.free_size,
-        };
+        return Ok(ranges.free_size);
     }
-    Counted {
-        answer: Answer::InvalidEntry,
-        value: 0,
-    }
+    Err(MemoryError::InvalidEntry)
 }
 
 // The least number of free bytes after any accepted call since the first accepted free.
@@ -91,13 +85,7 @@ pub fn lowest(a: Account) -> Counted
     ensures { result ≡ lowest_of pool a }
 {
     if is_sound(a) {
-        return Counted {
-            answer: Answer::Accepted(Address(0)),
-            value: a.lowest,
-        };
+        return Ok(a.lowest);
     }
-    Counted {
-        answer: Answer::InvalidEntry,
-        value: 0,
-    }
+    Err(MemoryError::InvalidEntry)
 }

@@ -6,19 +6,7 @@ use mathlib.Core.Path.{◌≡◌, refl, sym, ◌∙◌}
 use native.Mathlib.Omega.{arith}
 use lib.Dec.{eqb}
 use borrow.Author.Tests.{eq-eqb, ne_eqb, lt-ltb, le-ltb, le-leb, lt-leb}
-use Rattle.rules_lowest.specs.Lowest.{never, noted, low_sound}
-
--- ---- noting
-
-module _ (k r total low : ℕ) (is : r ≡ k) where
-  pub note-lower : r ≡ 0 → total < low → total ≡ noted k total low
-  note-lower ok h = rw (← is, eq-eqb r 0 ok, lt-ltb total low h)
-
-  pub note-kept : r ≡ 0 → low ≤ total → low ≡ noted k total low
-  note-kept ok h = rw (← is, eq-eqb r 0 ok, le-ltb total low h)
-
-  pub note-refused : r ≢ 0 → low ≡ noted k total low
-  note-refused d = rw (← is, ne_eqb r 0 d)
+use Rattle.rules_lowest.specs.Lowest.{never, low_sound}
 
 -- ---- the figure beside a total
 

@@ -7,7 +7,7 @@ ghost use Rattle.pool_state.specs.Shown.{pool};
 ghost use Rattle.calls.specs.Calls.{number_of};
 ghost use Rattle.account_state.specs.Account.{is_sound_lem};
 
-use calls::{Answer, number_of};
+use calls::Answer;
 use pool_state::MemoryAllocator;
 
 // The figure before the first accepted free.
@@ -31,13 +31,10 @@ pub struct Entered {
 pub fn noted(answer: Answer, total: u64, lowest: u64) -> u64
     ensures { result ≡ rules.noted (number_of answer) total lowest }
 {
-    if number_of(answer) == 0 {
-        if total < lowest {
-            return total;
-        }
-        return lowest;
+    match answer {
+        Ok(_) => total.min(lowest),
+        Err(_) => lowest,
     }
-    lowest
 }
 
 // Whether the figure may stand beside this total.

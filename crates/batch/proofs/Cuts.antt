@@ -10,6 +10,7 @@ use lib.ListN.{length, take, drop, length-append, length-drop, take-append-drop}
 use lib.Seq.{length-take-le, drop-length, drop-drop}
 use native.Mathlib.Omega.{arith}
 use borrow.Author.Tests.{le-leb}
+use Rattle.std.specs.Prelude.{Some}
 use Rattle.linked_lists.specs.Links.{none}
 use Rattle.account_state.specs.Account.{SoundAccount}
 use Rattle.account_state.specs.declared.Account.{Account}
@@ -20,11 +21,9 @@ use Rattle.calls.specs.declared.Request.TheVariants.{Allocate, Reserve, Free}
 use Rattle.account_calls.specs.Made.{made}
 use Rattle.account_calls.specs.Engine.{accounts}
 use Rattle.pool_listing.specs.Listing.{written}
-use Rattle.batch.specs.InWords.{words_of_lem, asked, whole}
+use Rattle.batch.specs.InWords.{words_of_lem, asked, whole, Asked}
 use Rattle.batch.specs.Lists.{left_by, answers_of, fitted, list_served, answered}
 use Rattle.batch.specs.Histories.{Batch, account_door, front, rest, CutAt}
-use Rattle.batch.specs.declared.Asked.{Asked}
-use Rattle.batch.specs.declared.Asked.TheVariants.{Is}
 use Rattle.batch.proofs.InWords.{asked-append, whole_append, first-calls}
 use Rattle.batch.proofs.Runs.{left-append, answers-append, answers-length}
 use Rattle.batch.proofs.Going.{and_left, going-room}
@@ -35,7 +34,7 @@ abbrev pub Fits : Batch → Type 0
 Fits b = fitted b.words (length b.places) ≡ true
 
 -- the words of a request ask for it, and one place is enough
-pub asked-one : (q : Request) → asked (words_of_lem q) ≡ Is q ∷ []
+pub asked-one : (q : Request) → asked (words_of_lem q) ≡ Some q ∷ []
 unfolding asked
 asked-one (Free a z) = refl
 asked-one (Allocate z o) = refl
@@ -59,11 +58,11 @@ module _ (n : ℕ) (small : n ≤ none) where
     answers-are = rw (sound-passes n small s h, fits)
 
     -- A list of one call answers and leaves what that call does.
-    pub single-left : (q : Request) → asked b.words ≡ Is q ∷ [] → (account_door n).next b s ≡ (made n s (call_of q)).state
+    pub single-left : (q : Request) → asked b.words ≡ Some q ∷ [] → (account_door n).next b s ≡ (made n s (call_of q)).state
     unfolding left_by
     single-left q e = left_is ∙ ap (left_by n s) e
 
-    pub single-answer : (q : Request) → asked b.words ≡ Is q ∷ [] → (account_door n).answers b s ≡ written (signed_of (made n s (call_of q)).answer ∷ []) b.places
+    pub single-answer : (q : Request) → asked b.words ≡ Some q ∷ [] → (account_door n).answers b s ≡ written (signed_of (made n s (call_of q)).answer ∷ []) b.places
     unfolding answers_of
     single-answer q e = answers-are ∙ ap (λ (qs : List Asked). written (answers_of n s qs) b.places) e
 

@@ -9,6 +9,7 @@ use lib.ListN.{length, set, take}
 use lib.Seq.{take-length}
 use native.Mathlib.Omega.{arith}
 use borrow.Author.Tests.{leb-true}
+use Rattle.std.specs.Prelude.{Some, None}
 use Rattle.linked_lists.specs.Links.{none}
 use Rattle.linked_lists.proofs.Laws.{true≢false}
 use Rattle.rules.specs.Rules.{top, Book}
@@ -20,17 +21,14 @@ use Rattle.pool_state.proofs.Book.{sound-holds}
 use Rattle.rules_lowest.specs.Lowest.{noted}
 use Rattle.account_state.specs.Account.{account, SoundAccount}
 use Rattle.account_state.specs.declared.Account.{Account}
-use Rattle.calls.specs.Calls.{call_of, address_of, number_of, signed_of}
+use Rattle.calls.specs.Calls.{Answer, call_of, address_of, number_of, signed_of}
 use Rattle.calls.specs.Answers.{Answers}
-use Rattle.calls.specs.declared.Answer.{Answer}
 use Rattle.account_state.specs.declared.Entered.{Entered}
 use Rattle.calls.proofs.Below.{step-below}
 use Rattle.account_calls.proofs.Judged.{sound-judged}
 use Rattle.pool_listing.proofs.Writing.{partly, partly-on, partly-all}
-use Rattle.batch.specs.InWords.{asked, asked_at_lem, whole, rule_of}
+use Rattle.batch.specs.InWords.{asked, asked_at_lem, whole, rule_of, Asked}
 use Rattle.batch.specs.Lists.{served_of, left_by, answers_of, fitted, Served}
-use Rattle.batch.specs.declared.Asked.{Asked}
-use Rattle.batch.specs.declared.Asked.TheVariants.{Is, Unknown}
 use Rattle.batch.proofs.Runs.{answers-length, left-next, answer_at}
 use Rattle.batch.proofs.Histories.{served-sound}
 
@@ -44,8 +42,8 @@ and_right false q e = true≢false (sym e)
 
 -- what is answered is an address below 2^63
 pub rule-below : (n : ℕ) (b : Book) (q : Asked) → Sound n b → (rule_of n q b).address < top
-rule-below n b (Is q) h = step-below n b (call_of q) h
-rule-below n b Unknown h = lit< tt
+rule-below n b (Some q) h = step-below n b (call_of q) h
+rule-below n b None h = lit< tt
 
 -- of a list that fits, each call has a place
 pub going-room : (l : List ℕ) (m : ℕ) → fitted l m ≡ true → length (asked l) ≤ m

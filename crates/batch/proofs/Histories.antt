@@ -5,6 +5,7 @@ use mathlib.Core.List.{List, [], ◌∷◌, ◌++◌}
 use mathlib.Core.Path.{◌≡◌, refl, sym, ap, ◌∙◌, subst}
 use lib.IntN.{ℤ}
 use lib.ListN.{length, drop}
+use Rattle.std.specs.Prelude.{Some, None}
 use Rattle.linked_lists.specs.Links.{none}
 use Rattle.rules.specs.Rules.{Book, Call, total, step}
 use Rattle.rules.specs.Sound.{Sound}
@@ -30,11 +31,9 @@ use Rattle.account_calls.specs.Engine.{lowest_in}
 use Rattle.account_calls.proofs.Steps.{sound-held}
 use Rattle.account_calls.proofs.Judged.{passed-judged}
 use Rattle.account_calls.proofs.Demand.{demand, lowest}
-use Rattle.batch.specs.InWords.{asked, rule_of}
+use Rattle.batch.specs.InWords.{asked, rule_of, Asked}
 use Rattle.batch.specs.Lists.{served_of, left_by, answers_of, fitted, list_served, answered}
 use Rattle.batch.specs.Histories.{Batch, Door, known, kept, calls_in, vouchers_in, after_lists, vouchers_of_lists, account_door}
-use Rattle.batch.specs.declared.Asked.{Asked}
-use Rattle.batch.specs.declared.Asked.TheVariants.{Is, Unknown}
 
 -- ---- any engine
 
@@ -86,13 +85,13 @@ module _ (e : Engine) (d : Door e) (f : Faithful e d) where
 
 module _ (n : ℕ) (small : n ≤ none) where
   rule-sound : (b : Book) (q : Asked) → Sound n b → Sound n (rule_of n q b).book
-  rule-sound b (Is q) h = step-sound n b (call_of q) h
-  rule-sound b Unknown h = h
+  rule-sound b (Some q) h = step-sound n b (call_of q) h
+  rule-sound b None h = h
 
   rule_fits : (b : Book) (q : Asked) → Sound n b → (low : ℕ) → low_sound (total b) low ≡ true
       → low_sound (total (rule_of n q b).book) (noted (rule_of n q b).number (total (rule_of n q b).book) low) ≡ true
-  rule_fits b (Is q) h low ok = noted-sound n b (call_of q) h low ok
-  rule_fits b Unknown h low ok = ok
+  rule_fits b (Some q) h low ok = noted-sound n b (call_of q) h low ok
+  rule_fits b None h low ok = ok
 
   -- one call on a sound account
   module _ (s : Account) (h : SoundAccount n s) where
@@ -114,8 +113,8 @@ module _ (n : ℕ) (small : n ≤ none) where
         (sound-held n small _ _ (step-sound n b c h.ranges.book) (noted-sound n b c h.ranges.book s.lowest low_fits))
 
     -- an unknown kind leaves the account
-    pub unknown-left : (served_of n s Unknown).state ≡ s
-    unknown-left = ap (λ (r : Entered). r.state) (served-held Unknown) ∙ (λ z. account (h.ranges.state z) s.lowest)
+    pub unknown-left : (served_of n s None).state ≡ s
+    unknown-left = ap (λ (r : Entered). r.state) (served-held None) ∙ (λ z. account (h.ranges.state z) s.lowest)
 
   pub left-sound : (s : Account) → SoundAccount n s → (qs : List Asked) → SoundAccount n (left_by n s qs)
   unfolding left_by
@@ -125,17 +124,17 @@ module _ (n : ℕ) (small : n ≤ none) where
   pub left-known : (s : Account) → SoundAccount n s → (qs : List Asked) → left_by n s qs ≡ after (accounts n) s (known qs)
   unfolding left_by after known
   left-known s h [] = refl
-  left-known s h (Is q ∷ qs) = left-known (made n s (call_of q)).state (served-sound s h (Is q)) qs
-  left-known s h (Unknown ∷ qs) = ap (λ (t : Account). left_by n t qs) (unknown-left s h) ∙ left-known s h qs
+  left-known s h (Some q ∷ qs) = left-known (made n s (call_of q)).state (served-sound s h (Some q)) qs
+  left-known s h (None ∷ qs) = ap (λ (t : Account). left_by n t qs) (unknown-left s h) ∙ left-known s h qs
 
   pub kept-known : (s : Account) → SoundAccount n s → (qs : List Asked) (rest : List ℤ) → kept qs (answers_of n s qs ++ rest) ≡ vouchers (accounts n) s (known qs)
   unfolding answers_of vouchers known kept
   kept-known s h [] rest = refl
-  kept-known s h (Is q ∷ qs) rest =
+  kept-known s h (Some q ∷ qs) rest =
       let first = signed-voucher (call_of q) (made n s (call_of q)).answer in
-      let others = kept-known (made n s (call_of q)).state (served-sound s h (Is q)) qs rest in
+      let others = kept-known (made n s (call_of q)).state (served-sound s h (Some q)) qs rest in
       (λ i. first i ∷ others i)
-  kept-known s h (Unknown ∷ qs) rest = ap (λ (t : Account). kept qs (answers_of n t qs ++ rest)) (unknown-left s h) ∙ kept-known s h qs rest
+  kept-known s h (None ∷ qs) rest = ap (λ (t : Account). kept qs (answers_of n t qs ++ rest)) (unknown-left s h) ∙ kept-known s h qs rest
 
   -- a list on a sound state
   module _ (s : Account) (h : SoundAccount n s) (b : Batch) where

@@ -6,12 +6,10 @@ use mathlib.Core.Path.{◌≡◌, refl, sym, ap, ◌∙◌}
 use lib.Dec.{eqb}
 use lib.ListN.{length, get_or, take}
 use native.Mathlib.Omega.{arith}
-use borrow.Author.Tests.{ne_eqb}
+use Rattle.std.specs.Prelude.{Some, None}
 use Rattle.linked_lists.proofs.Laws.{true≢false}
 use Rattle.calls.specs.declared.Request.TheVariants.{Allocate, Reserve, Free}
-use Rattle.batch.specs.InWords.{asked_of, asked_by_lem, asked, whole}
-use Rattle.batch.specs.declared.Asked.{Asked}
-use Rattle.batch.specs.declared.Asked.TheVariants.{Is, Unknown}
+use Rattle.batch.specs.InWords.{asked_of, asked_by_lem, asked, whole, Asked}
 use Rattle.batch.specs.declared.Words.{Words}
 
 pub asked-length : (l : List ℕ) → length (asked l) ≡ length l / 4
@@ -40,7 +38,7 @@ next_word a b c d l i j =
 abbrev words_from : List ℕ → ℕ → Asked
 words_from l k = asked_of (get_or l (k * 4 + 0) 0) (get_or l (k * 4 + 1) 0) (get_or l (k * 4 + 2) 0) (get_or l (k * 4 + 3) 0)
 
-words-from : (l : List ℕ) (k : ℕ) → k < length (asked l) → words_from l k ≡ get_or (asked l) k Unknown
+words-from : (l : List ℕ) (k : ℕ) → k < length (asked l) → words_from l k ≡ get_or (asked l) k None
 unfolding asked
 words-from [] k h = absurd (let v : ⊥ = omega arith in v)
 words-from (kind ∷ []) k h = absurd (let v : ⊥ = omega arith in v)
@@ -55,7 +53,7 @@ words-from (kind ∷ x ∷ y ∷ z ∷ l) (suc k) h =
     let w3 = w 3 in
     (λ i. asked_of (w0 i) (w1 i) (w2 i) (w3 i)) ∙ words-from l k (omega arith)
 
-pub words-at : (l : List ℕ) (k : ℕ) → k < length (asked l) → asked_of (get_or l (k * 4) 0) (get_or l (k * 4 + 1) 0) (get_or l (k * 4 + 2) 0) (get_or l (k * 4 + 3) 0) ≡ get_or (asked l) k Unknown
+pub words-at : (l : List ℕ) (k : ℕ) → k < length (asked l) → asked_of (get_or l (k * 4) 0) (get_or l (k * 4 + 1) 0) (get_or l (k * 4 + 2) 0) (get_or l (k * 4 + 3) 0) ≡ get_or (asked l) k None
 words-at l k h =
     let e : k * 4 ≡ k * 4 + 0 = omega arith in
     ap (λ (m : ℕ). asked_of (get_or l m 0) (get_or l (k * 4 + 1) 0) (get_or l (k * 4 + 2) 0) (get_or l (k * 4 + 3) 0)) e ∙ words-from l k h
@@ -63,17 +61,14 @@ words-at l k h =
 -- ---- what the words of a call ask for, by its kind
 
 module _ (w : Words) where
-  pub free-asked : w.kind ≡ 1 → Is (Free (record { 0 = w.x }) w.y) ≡ asked_by_lem w
+  pub free-asked : w.kind ≡ 1 → Some (Free (record { 0 = w.x }) w.y) ≡ asked_by_lem w
   free-asked e = ap (λ (k : ℕ). asked_of k w.x w.y w.z) (sym e)
 
-  pub allocate-asked : w.kind ≡ 2 → Is (Allocate w.x w.y) ≡ asked_by_lem w
+  pub allocate-asked : w.kind ≡ 2 → Some (Allocate w.x w.y) ≡ asked_by_lem w
   allocate-asked e = ap (λ (k : ℕ). asked_of k w.x w.y w.z) (sym e)
 
-  pub reserve-asked : w.kind ≡ 3 → Is (Reserve (record { 0 = w.x }) w.y w.z) ≡ asked_by_lem w
+  pub reserve-asked : w.kind ≡ 3 → Some (Reserve (record { 0 = w.x }) w.y w.z) ≡ asked_by_lem w
   reserve-asked e = ap (λ (k : ℕ). asked_of k w.x w.y w.z) (sym e)
-
-  pub unknown-asked : (w.kind ≡ 1 → ⊥) → (w.kind ≡ 2 → ⊥) → (w.kind ≡ 3 → ⊥) → Unknown ≡ asked_by_lem w
-  unknown-asked d e f = rw (ne_eqb w.kind 1 d, ne_eqb w.kind 2 e, ne_eqb w.kind 3 f)
 
 -- ---- cuts
 

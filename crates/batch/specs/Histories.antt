@@ -1,14 +1,12 @@
 -- Lists of lists: lists of calls made on an engine, one list after the other, by a door that serves lists. What is kept of them is what
 -- the caller has: the words, and the answers that stand in the places. Assumes nothing.
-use Rattle.std.specs.Prelude.{ℕ, ◌*◌, cond, List, [], ◌∷◌, ◌++◌, ◌≡◌, ℤ, length, take, drop}
+use Rattle.std.specs.Prelude.{ℕ, ◌*◌, cond, List, [], ◌∷◌, ◌++◌, ◌≡◌, ℤ, length, take, drop, Some, None}
 use Rattle.rules.specs.Rules.{Call, Voucher}
 use Rattle.rules_engine.specs.Engine.{Engine}
 use Rattle.calls.specs.Calls.{call_of, voucher_from}
 use Rattle.account_calls.specs.Engine.{accounts}
-use Rattle.batch.specs.InWords.{asked}
+use Rattle.batch.specs.InWords.{asked, Asked}
 use Rattle.batch.specs.Lists.{fitted, list_served, answered}
-use Rattle.batch.specs.declared.Asked.{Asked}
-use Rattle.batch.specs.declared.Asked.TheVariants.{Is, Unknown}
 
 -- the two slices that are lent
 pub record Batch : Type 0 where
@@ -23,15 +21,15 @@ pub record Door (e : Engine) : Type 0 where
 -- the calls of a list; an unknown kind is none
 unfoldable pub known : List Asked → List Call
 known [] = []
-known (Is q ∷ qs) = call_of q ∷ known qs
-known (Unknown ∷ qs) = known qs
+known (Some q ∷ qs) = call_of q ∷ known qs
+known (None ∷ qs) = known qs
 
 -- their vouchers, each with the answer in its place
 unfoldable pub kept : List Asked → List ℤ → List Voucher
 kept [] is = []
 kept (q ∷ qs) [] = []
-kept (Is q ∷ qs) (i ∷ is) = voucher_from (call_of q) i ∷ kept qs is
-kept (Unknown ∷ qs) (i ∷ is) = kept qs is
+kept (Some q ∷ qs) (i ∷ is) = voucher_from (call_of q) i ∷ kept qs is
+kept (None ∷ qs) (i ∷ is) = kept qs is
 
 -- of a list that does not fit, no call is made
 abbrev pub calls_in : Batch → List Call

@@ -1,16 +1,15 @@
 -- What a list of calls answers and leaves: what its calls do one by one, each on the account that the one before it left, so that the figure is noted after each. n is the number of records. Assumes nothing.
-use Rattle.std.specs.Prelude.{ℕ, Bool, cond, ◌&&◌, List, [], ◌∷◌, ◌≡◌, leb, ℤ, length}
+use Rattle.std.specs.Prelude.{ℕ, Bool, cond, ◌&&◌, List, [], ◌∷◌, ◌≡◌, leb, ℤ, length, Ok, Err}
 use Rattle.pool_state.specs.Lent.{Lent, was, is}
 use Rattle.account_state.specs.Account.{SoundAccount, is_sound_lem}
 use Rattle.account_state.specs.Lent.{OfEleven, eleven, OfLentEleven, turns_eleven}
 use Rattle.account_state.specs.declared.Account.{Account}
 use Rattle.account_state.specs.declared.Entered.{Entered}
 use Rattle.calls.specs.Calls.{signed_of}
-use Rattle.calls.specs.declared.Answer.TheVariants.{Accepted, InvalidEntry, InvalidRequest}
+use Rattle.calls.specs.declared.MemoryError.TheVariants.{InvalidEntry, InvalidRequest}
 use Rattle.account_calls.specs.Made.{judged}
 use Rattle.pool_listing.specs.Listing.{written}
-use Rattle.batch.specs.InWords.{asked, whole, rule_of}
-use Rattle.batch.specs.declared.Asked.{Asked}
+use Rattle.batch.specs.InWords.{asked, whole, rule_of, Asked}
 
 -- one of the calls: what it answers and leaves is what the call made singly does
 abbrev pub served_of : ℕ → Account → Asked → Entered
@@ -34,8 +33,8 @@ fitted l places = whole l && leb (length (asked l)) places
 unfoldable pub list_served : ℕ → Account → List ℕ → ℕ → Entered
 list_served n s l places =
     cond (is_sound_lem n s)
-    (cond (fitted l places) (record { answer = Accepted (record { 0 = 0 }); state = left_by n s (asked l) }) (record { answer = InvalidRequest; state = s }))
-    (record { answer = InvalidEntry; state = s })
+    (cond (fitted l places) (record { answer = Ok (record { 0 = 0 }); state = left_by n s (asked l) }) (record { answer = Err InvalidRequest; state = s }))
+    (record { answer = Err InvalidEntry; state = s })
 
 -- every place of the second slice: the answers in order, and the old contents past them, or everywhere after a refusal
 unfoldable pub answered : ℕ → Account → List ℕ → List ℤ → List ℤ

@@ -1,8 +1,8 @@
 // A call in words, and a list of them, in place.
 ghost use Rattle.std.specs.Prelude.{true, ◌≡◌, length};
 ghost use Rattle.pool_state.specs.Shown.{pool};
-ghost use Rattle.pool_state.specs.Lent.{HoldsSome};
-ghost use Rattle.calls.specs.Answers.{Follows};
+ghost use Rattle.pool_state.specs.Lent.{HoldsBook, HoldsSome, Keeps};
+ghost use Rattle.calls.specs.Answers.{Follows, Obeys};
 ghost use Rattle.batch.specs.InWords.{asked_by_lem, rule_of};
 ghost use Rattle.batch.specs.Lists.{fitted, ServedIn, SoundIn};
 
@@ -11,10 +11,25 @@ use account_state::noted;
 use call_allocate::allocate_in;
 use call_free::free_in;
 use call_reserve::reserve_in;
-use calls::{Answer, signed_number};
-use pool_state::{Address, LISTS, POOL};
+use calls::{Answer, MemoryError, signed_number};
+use pool_state::{Address, Fields, LISTS, POOL};
 
-// The kind leads to the call itself: a request that was made of the words first would cost as much as a tenth of the call.
+// On the fields of a state, lent together. The kind leads to the call itself: a request that was made of the words first would cost as much as
+// a tenth of the call.
+fn serve_words(f: &mut Fields<'_>, words: Words) -> Answer
+    requires { HoldsBook pool f }
+    ensures keeps { Keeps f }
+    ensures does { Obeys pool (rule_of pool (asked_by_lem words)) result f }
+{
+    match words.kind {
+        FREE => free_in(f, Address(words.x), words.y),
+        ALLOCATE => allocate_in(f, words.x, words.y),
+        RESERVE => reserve_in(f, Address(words.x), words.y, words.z),
+        _ => Err(MemoryError::InvalidRequest),
+    }
+}
+
+// On fields that are lent one by one.
 pub fn serve_words_in(
     total: &mut u64,
     first: &mut u16,
@@ -31,46 +46,19 @@ pub fn serve_words_in(
     requires { HoldsSome pool total first heads start end enabled previous next lprev lnext }
     ensures { Follows pool (rule_of pool (asked_by_lem words)) result total first heads start end enabled previous next lprev lnext }
 {
-    if words.kind == FREE {
-        return free_in(
-            total,
-            first,
-            heads,
-            start,
-            end,
-            enabled,
-            previous,
-            next,
-            lprev,
-            lnext,
-            Address(words.x),
-            words.y,
-        );
-    }
-    if words.kind == ALLOCATE {
-        return allocate_in(
-            total, first, heads, start, end, enabled, previous, next, lprev, lnext, words.x,
-            words.y,
-        );
-    }
-    if words.kind == RESERVE {
-        return reserve_in(
-            total,
-            first,
-            heads,
-            start,
-            end,
-            enabled,
-            previous,
-            next,
-            lprev,
-            lnext,
-            Address(words.x),
-            words.y,
-            words.z,
-        );
-    }
-    Answer::InvalidRequest
+    let mut f = Fields {
+        free_size: total,
+        first_entry: first,
+        free_list: heads,
+        start,
+        end,
+        enabled,
+        previous,
+        next,
+        list_prev: lprev,
+        list_next: lnext,
+    };
+    serve_words(&mut f, words)
 }
 
 // The calls of a list that fits, in order, on the fields of a sound account. They are lent on as they are: nothing is copied or checked
@@ -95,8 +83,7 @@ pub fn serve_list_in(
     ensures { ServedIn pool calls.now answers lowest total first heads start end enabled previous next lprev lnext }
 {
     let count = calls.len() / CALL_WORDS;
-    let mut k: usize = 0;
-    while k < count {
+    for k in 0..count {
         let words = words_at(calls, k);
         let answer = serve_words_in(
             total, first, heads, start, end, enabled, previous, next, lprev, lnext, words,
@@ -104,6 +91,5 @@ pub fn serve_list_in(
         *lowest = noted(answer, *total, *lowest);
         let number = signed_number(answer);
         answers[k] = number;
-        k += 1;
     }
 }

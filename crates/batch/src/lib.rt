@@ -8,7 +8,7 @@ ghost use Rattle.batch.specs.InWords.{asked, asked_by_lem, asked_at_lem, words_o
 ghost use Rattle.batch.specs.Lists.{fitted, Served, Serves};
 
 use account_state::{Account, Entered, is_sound};
-use calls::{Answer, Request};
+use calls::{MemoryError, Request};
 use pool_state::{Address, MemoryAllocator, RecordIndex};
 
 mod in_place;
@@ -31,12 +31,6 @@ pub struct Words {
     pub x: u64,
     pub y: u64,
     pub z: u64,
-}
-
-#[derive(Clone, Copy)]
-pub enum Asked {
-    Is(Request),
-    Unknown,
 }
 
 // A request as a list of one call.
@@ -63,30 +57,26 @@ fn words_at(calls: &[u64], k: usize) -> Words
     }
 }
 
-fn asked_by(words: Words) -> Asked
+fn asked_by(words: Words) -> Option<Request>
     ensures { result ≡ asked_by_lem words }
 {
-    if words.kind == FREE {
-        return Asked::Is(Request::Free(Address(words.x), words.y));
+    match words.kind {
+        FREE => Some(Request::Free(Address(words.x), words.y)),
+        ALLOCATE => Some(Request::Allocate(words.x, words.y)),
+        RESERVE => Some(Request::Reserve(Address(words.x), words.y, words.z)),
+        _ => None,
     }
-    if words.kind == ALLOCATE {
-        return Asked::Is(Request::Allocate(words.x, words.y));
-    }
-    if words.kind == RESERVE {
-        return Asked::Is(Request::Reserve(Address(words.x), words.y, words.z));
-    }
-    Asked::Unknown
 }
 
-// What call k of the list asks for.
-pub fn asked_at(calls: &[u64], k: usize) -> Asked
+// What call k of the list asks for; None where its kind is unknown, and past the list.
+pub fn asked_at(calls: &[u64], k: usize) -> Option<Request>
     ensures { result ≡ asked_at_lem calls.now k }
 {
     if k < calls.len() / CALL_WORDS {
         let words = words_at(calls, k);
         return asked_by(words);
     }
-    Asked::Unknown
+    None
 }
 
 // Whole calls, and a place for the answer of each.
@@ -158,12 +148,12 @@ pub fn serve_list_unchecked(a: Account, calls: &[u64], answers: &mut [i64]) -> E
     if list_fits(calls, answers.len()) {
         let left = serve_list_sound(a, calls, answers);
         return Entered {
-            answer: Answer::Accepted(Address(0)),
+            answer: Ok(Address(0)),
             state: left,
         };
     }
     Entered {
-        answer: Answer::InvalidRequest,
+        answer: Err(MemoryError::InvalidRequest),
         state: a,
     }
 }
@@ -176,7 +166,7 @@ pub fn serve_list(a: Account, calls: &[u64], answers: &mut [i64]) -> Entered
         return serve_list_unchecked(a, calls, answers);
     }
     Entered {
-        answer: Answer::InvalidEntry,
+        answer: Err(MemoryError::InvalidEntry),
         state: a,
     }
 }

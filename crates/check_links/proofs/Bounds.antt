@@ -10,7 +10,7 @@ use native.Mathlib.Nat.{pow-le-pow_right, pow-suc, mod-eq_of_lt}
 use lib.Pow.{pow_pos}
 use lib.Dec.{leb, ltb, eqb, leb→le, nleb→lt, ltb→lt, nltb→le, lit≤}
 use lib.ListN.{get_or}
-use borrow.Author.Tests.{lt-ltb, le-ltb, le-leb, lt-leb, ne_eqb}
+use borrow.Author.Tests.{lt-ltb, le-ltb, ne_eqb}
 use Rattle.linked_lists.specs.Links.{none}
 use Rattle.rules.specs.Rules.{size_lists, top, list_number}
 use Rattle.rules_laws.proofs.Lists.{T-or-not}
@@ -18,8 +18,7 @@ use Rattle.rules_laws.proofs.Facts.{list-number-within}
 use Rattle.rules_laws.proofs.Shelf.{least-le}
 use Rattle.pool_state.specs.Shown.{key_at}
 use Rattle.check_records.specs.Records.{Proper}
-use Rattle.check_records.specs.declared.Tally.{Tally}
-use Rattle.check_records.specs.declared.Tally.TheVariants.{Of, Broken}
+use Rattle.std.specs.Prelude.{Option, Some, None}
 use Rattle.check_links.specs.Walk.{walk}
 use Rattle.check_links.specs.Walks.{follows, size_at, list_step, list_walk}
 use Rattle.check_links.specs.Bounds.{most_of, Bounds}
@@ -119,13 +118,13 @@ module _ (n : ℕ) (start end : List ℕ) (enabled : List Bool) (lprev lnext : L
   pub record ListAt (q i low left : ℕ) : Type 0 where
     pub from : least ≤ low
     pub within : low ≤ most → list_walk n start end enabled lprev lnext k count none 0 head ≡ list_walk n start end enabled lprev lnext k left q low i
-    pub beyond : most < low → list_walk n start end enabled lprev lnext k count none 0 head ≡ Broken
+    pub beyond : most < low → list_walk n start end enabled lprev lnext k count none 0 head ≡ None
 
 module _ (n : ℕ) (start end : List ℕ) (enabled : List Bool) (lprev lnext : List ℕ) (good : Proper n start end enabled) (k least most : ℕ) (b : Bounds k least most) where
   abbrev step : ℕ → ℕ → ℕ → Bool
   step = list_step n start end enabled lprev k
 
-  abbrev along : ℕ → ℕ → ℕ → ℕ → Tally
+  abbrev along : ℕ → ℕ → ℕ → ℕ → Option ℕ
   along = list_walk n start end enabled lprev lnext k
 
   -- the size of a record that follows is that of a range
@@ -164,7 +163,7 @@ module _ (n : ℕ) (start end : List ℕ) (enabled : List Bool) (lprev lnext : L
   first : (f i : ℕ) → along f none 0 i ≡ along f none least i
   unfolding walk
   first zero i = refl
-  first (suc f) i = ap (λ (t : Bool). cond (eqb i none) (Of (suc f)) (cond t (along f i (size_at start end i) (get_or lnext i 0)) Broken)) (first_step none i)
+  first (suc f) i = ap (λ (t : Bool). cond (eqb i none) (Some (suc f)) (cond t (along f i (size_at start end i) (get_or lnext i 0)) None)) (first_step none i)
 
   module _ (count head : ℕ) where
     abbrev At : ℕ → ℕ → ℕ → ℕ → Type 0
@@ -174,19 +173,19 @@ module _ (n : ℕ) (start end : List ℕ) (enabled : List Bool) (lprev lnext : L
     list-starts = record { from = omega arith; within = λ h. first count head; beyond = λ h. absurd (let s = b.some in let v : ⊥ = omega arith in v) }
 
     module _ (q i low left : ℕ) (a : At q i low left) where
-      broken : (low ≤ most → along left q low i ≡ Broken) → Broken ≡ along count none 0 head
+      broken : (low ≤ most → along left q low i ≡ None) → None ≡ along count none 0 head
       broken h = elim (T-or-not (leb low most)) [
         | inl t ↦ let l = leb→le low most t in sym (a.within l ∙ h l)
         | inr t ↦ sym (a.beyond (nleb→lt low most t))
       ]
 
-      pub list-stuck : left ≡ 0 → i ≢ none → Broken ≡ along count none 0 head
+      pub list-stuck : left ≡ 0 → i ≢ none → None ≡ along count none 0 head
       list-stuck z e = broken (λ h. walk-stuck _ _ step left q low i z e)
 
-      pub list-breaks : i ≢ none → follows n enabled lprev q i ≡ false → Broken ≡ along count none 0 head
+      pub list-breaks : i ≢ none → follows n enabled lprev q i ≡ false → None ≡ along count none 0 head
       list-breaks e f = broken (λ h. walk-breaks _ _ step left q low i e (list-unfollowed n start end enabled lprev k q low i f))
 
-      pub list-sinks : (z : ℕ) → i ≢ none → follows n enabled lprev q i ≡ true → z ≡ size_at start end i → z < low → Broken ≡ along count none 0 head
+      pub list-sinks : (z : ℕ) → i ≢ none → follows n enabled lprev q i ≡ true → z ≡ size_at start end i → z < low → None ≡ along count none 0 head
       list-sinks z e f ez h = broken (λ g. walk-breaks _ _ step left q low i e (list-falls n start end enabled lprev k q low i z f ez h))
 
       pub list-goes : (z : ℕ) → left ≢ 0 → i ≢ none → follows n enabled lprev q i ≡ true → z ≡ size_at start end i → low ≤ z → At i (get_or lnext i 0) z (left - 1)
@@ -199,8 +198,8 @@ module _ (n : ℕ) (start end : List ℕ) (enabled : List Bool) (lprev lnext : L
           stepped : z ≤ most → step q low i ≡ true
           stepped g = true-list n start end enabled lprev k q low i f (omega arith) (b.inside _ (omega (arith, a.from)) (omega arith))
 
-      pub list-ends : i ≡ none → low ≤ most → Of left ≡ along count none 0 head
+      pub list-ends : i ≡ none → low ≤ most → Some left ≡ along count none 0 head
       list-ends e h = sym (a.within h ∙ walk_ends _ _ step left q low i e)
 
-      pub list-exceeds : most < low → Broken ≡ along count none 0 head
+      pub list-exceeds : most < low → None ≡ along count none 0 head
       list-exceeds h = sym (a.beyond h)

@@ -12,7 +12,7 @@ use Rattle.rules.specs.Rules.{top}
 use Rattle.check_links.specs.Walk.{sum_along}
 use Rattle.check_records.specs.Records.{Proper}
 use Rattle.check_links.specs.Walks.{size_at, chain_step_lem, chain_walk, chain_ok_lem}
-use Rattle.check_records.specs.declared.Tally.TheVariants.{Broken}
+use Rattle.std.specs.Prelude.{None}
 use Rattle.check_links.proofs.Walk.{walk_ends, walk-stuck, walk-breaks, walk-goes, sum-ends, sum_goes}
 use Rattle.check_links.proofs.Steps.{follows-true, chain-true}
 
@@ -54,7 +54,7 @@ module _ (n first : ℕ) (start end : List ℕ) (enabled : List Bool) (previous 
           low-top = omega (arith, g.3);
         }
 
-    broken : (total : ℕ) → chain_walk n start end enabled previous next left q low i ≡ Broken → chain_ok_lem n total first start end enabled previous next c ≡ false
+    broken : (total : ℕ) → chain_walk n start end enabled previous next left q low i ≡ None → chain_ok_lem n total first start end enabled previous next c ≡ false
     unfolding chain_ok_lem
     broken total h = rw (a.rest ∙ h)
 

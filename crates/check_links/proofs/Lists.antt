@@ -11,13 +11,12 @@ use Rattle.linked_lists.specs.Links.{none}
 use Rattle.linked_lists.proofs.Laws.{true≢false}
 use Rattle.check_links.specs.Walk.{onward}
 use Rattle.check_links.specs.Walks.{list_walk, lists_ok_lem}
-use Rattle.check_records.specs.declared.Tally.{Tally}
-use Rattle.check_records.specs.declared.Tally.TheVariants.{Of, Broken}
+use Rattle.std.specs.Prelude.{Option, Some, None}
 
 -- what a test of what is left tells
-pub onward-told : (p : ℕ → Bool) (t : Tally) → onward p t ≡ true → (f : ℕ) × (t ≡ Of f) × (p f ≡ true)
-onward-told p (Of f) h = (f, refl, h)
-onward-told p Broken h = true≢false (sym h)
+pub onward-told : (p : ℕ → Bool) (t : Option ℕ) → onward p t ≡ true → (f : ℕ) × (t ≡ Some f) × (p f ≡ true)
+onward-told p (Some f) h = (f, refl, h)
+onward-told p None h = true≢false (sym h)
 
 module _ (n : ℕ) (heads start end : List ℕ) (enabled : List Bool) (lprev lnext : List ℕ) where
   abbrev from : ℕ → ℕ → ℕ → Bool
@@ -27,11 +26,11 @@ module _ (n : ℕ) (heads start end : List ℕ) (enabled : List Bool) (lprev lne
   unfolding lists_ok_lem
   lists-done m k c e = rw e
 
-  pub lists-broken : (m k c : ℕ) → m ≢ 0 → list_walk n start end enabled lprev lnext k c none 0 (get_or heads k 0) ≡ Broken → from m k c ≡ false
+  pub lists-broken : (m k c : ℕ) → m ≢ 0 → list_walk n start end enabled lprev lnext k c none 0 (get_or heads k 0) ≡ None → from m k c ≡ false
   unfolding lists_ok_lem
   lists-broken zero k c d h = absurd (d refl)
   lists-broken (suc m) k c d h = rw h
 
-  pub lists-go : (m m' k c f : ℕ) → m ≡ suc m' → list_walk n start end enabled lprev lnext k c none 0 (get_or heads k 0) ≡ Of f → from m k c ≡ from m' (k + 1) f
+  pub lists-go : (m m' k c f : ℕ) → m ≡ suc m' → list_walk n start end enabled lprev lnext k c none 0 (get_or heads k 0) ≡ Some f → from m k c ≡ from m' (k + 1) f
   unfolding lists_ok_lem
   lists-go m m' k c f e h = rw (e, h, add-one k)

@@ -7,22 +7,22 @@ use native.Mathlib.Omega.{arith}
 use borrow.Author.Tests.{eq-eqb, ne_eqb}
 use Rattle.linked_lists.specs.Links.{none}
 use Rattle.check_links.specs.Walk.{walk, sum_along}
-use Rattle.check_records.specs.declared.Tally.TheVariants.{Of, Broken}
+use Rattle.std.specs.Prelude.{Some, None}
 
 one_less : (f : ℕ) → f ≡ suc f - 1
 one_less f = omega arith
 
 module _ (next past : ℕ → ℕ) (step : ℕ → ℕ → ℕ → Bool) where
-  pub walk_ends : (f q low i : ℕ) → i ≡ none → walk next past step f q low i ≡ Of f
+  pub walk_ends : (f q low i : ℕ) → i ≡ none → walk next past step f q low i ≡ Some f
   unfolding walk
   walk_ends zero q low i e = rw (eq-eqb i none e)
   walk_ends (suc f) q low i e = rw (eq-eqb i none e)
 
-  pub walk-stuck : (f q low i : ℕ) → f ≡ 0 → i ≢ none → walk next past step f q low i ≡ Broken
+  pub walk-stuck : (f q low i : ℕ) → f ≡ 0 → i ≢ none → walk next past step f q low i ≡ None
   unfolding walk
   walk-stuck f q low i z d = rw (z, ne_eqb i none d)
 
-  pub walk-breaks : (f q low i : ℕ) → i ≢ none → step q low i ≡ false → walk next past step f q low i ≡ Broken
+  pub walk-breaks : (f q low i : ℕ) → i ≢ none → step q low i ≡ false → walk next past step f q low i ≡ None
   unfolding walk
   walk-breaks zero q low i d h = rw (ne_eqb i none d)
   walk-breaks (suc f) q low i d h = rw (ne_eqb i none d, h)

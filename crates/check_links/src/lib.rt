@@ -9,11 +9,7 @@ ghost use Rattle.check_records.specs.Records.{Proper};
 ghost use Rattle.check_links.specs.Walks.{follows, size_at, chain_step_lem, chain_ok_lem, list_walk, lists_ok_lem};
 ghost use Rattle.check_links.specs.Bounds.{most_of, Bounds};
 
-use check_records::Tally;
-use pool_state::{Address, LISTS, NONE, POOL, RecordIndex, TOP};
-
-// The most bytes of a range of list 0.
-const PAGE: u64 = 4096;
+use pool_state::{Address, LISTS, NONE, PAGE, POOL, RecordIndex, TOP};
 
 // The number of bytes of record i.
 fn size_at(start: &[u64; POOL], end: &[u64; POOL], i: RecordIndex) -> u64
@@ -118,7 +114,7 @@ fn tally_list(
     most: u64,
     count: usize,
     head: RecordIndex,
-) -> Tally
+) -> Option<usize>
     requires { Proper pool start.now end.now enabled.now }
     ensures { (k : ℕ) → Bounds k least most → result ≡ list_walk pool start.now end.now enabled.now lprev.now lnext.now k count none 0 head.0 }
 {
@@ -128,14 +124,14 @@ fn tally_list(
     let mut left = count;
     while cur.0 != NONE {
         if left == 0 {
-            return Tally::Broken;
+            return None;
         }
         if !follows(enabled, lprev, before, cur) {
-            return Tally::Broken;
+            return None;
         }
         let size = size_at(start, end, cur);
         if size < low {
-            return Tally::Broken;
+            return None;
         }
         low = size;
         let n = cur.0 as usize;
@@ -144,9 +140,9 @@ fn tally_list(
         left = left - 1;
     }
     if most < low {
-        return Tally::Broken;
+        return None;
     }
-    Tally::Of(left)
+    Some(left)
 }
 
 // The size lists have `count` records.
@@ -162,12 +158,11 @@ pub fn lists_ok(
     requires { Proper pool start.now end.now enabled.now }
     ensures { result ≡ lists_ok_lem pool heads.now start.now end.now enabled.now lprev.now lnext.now size_lists 0 count }
 {
-    let mut k: usize = 0;
     let mut least: u64 = 1;
     let mut left = count;
-    while k < LISTS {
+    for (k, head) in heads.iter().enumerate() {
         let most = most_of(k);
-        let rest = tally_list(
+        let Some(rest) = tally_list(
             start,
             end,
             enabled,
@@ -176,14 +171,12 @@ pub fn lists_ok(
             least,
             most,
             left,
-            RecordIndex(heads[k]),
-        );
-        let Tally::Of(records) = rest else {
+            RecordIndex(*head),
+        ) else {
             return false;
         };
-        left = records;
+        left = rest;
         least = most + 1;
-        k = k + 1;
     }
     left == 0
 }

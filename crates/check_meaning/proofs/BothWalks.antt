@@ -30,7 +30,8 @@ chain-tests n start end enabled previous good = record {
 }
 
 pub list-tests : (n : ℕ) (start end : List ℕ) (enabled : List Bool) (lprev : List ℕ) (k : ℕ)
-    → Tests n lprev (size_at start end) (size_at start end) (λ i. (used enabled i ≡ true) × (key_at start end i ≡ k)) (λ x y. size_at start end x ≤ size_at start end y) (list_step n start end enabled lprev k)
+    → Tests n lprev (size_at start end) (size_at start end) (λ i. (used enabled i ≡ true) × (key_at start end i ≡ k))
+    (λ x y. size_at start end x ≤ size_at start end y) (list_step n start end enabled lprev k)
 list-tests n start end enabled lprev k = record {
   told = λ q low x h.
       let w = list-true n start end enabled lprev k q low x h in

@@ -11,15 +11,14 @@ use lib.ListN.{length, get_or, length-append}
 use Rattle.linked_lists.specs.Links.{pick, none, head, has, follow, Linked, count}
 use Rattle.linked_lists.proofs.Laws.{same?, below?, true≢false, follow-walk, length-listed}
 use Rattle.linked_lists.proofs.Check.{covers, linked-listed, linked-after}
-use Rattle.rules.specs.Rules.{size_lists, sum}
-use Rattle.pool_state.specs.Shown.{at}
+use Rattle.rules.specs.Rules.{size_lists}
 use Rattle.pool_state.specs.declared.MemoryAllocator.{MemoryAllocator}
 use Rattle.check_links.specs.Walk.{sum_along, onward}
 use Rattle.check_records.specs.Records.{record_ok, all, record_at, used, Proper}
 use Rattle.check_links.specs.Walks.{size_at, chain_walk, chain_ok_lem, chain_step_lem, list_step, list_walk, lists_ok_lem}
 use Rattle.check_state.specs.IsSound.{is_sound_lem, chain_in, lists_in}
 use Rattle.check_meaning.specs.Paragraph.{Sized, Enabled, ByAddress, BySize, InOrder, Fresh, Paragraph}
-use Rattle.check_records.specs.declared.Tally.TheVariants.{Of}
+use Rattle.std.specs.Prelude.{Some}
 use Rattle.check_records.proofs.Tests.{and-true}
 use Rattle.check_records.proofs.Records.{all-at, ok-fresh, all-proper}
 use Rattle.check_links.proofs.Lists.{onward-told}
@@ -56,7 +55,10 @@ module _ (n : ℕ) (small : n ≤ none) (s : MemoryAllocator) where
 
   every-unused : Every → (i : ℕ) → i < n → on i ≡ false → Fresh s i
   every-unused h i b e =
-      let f = ok-fresh _ _ _ _ _ _ (subst (λ (t : Bool). record_ok t (get_or s.start i 0) (get_or s.end i 0) (get_or s.previous i 0) (get_or s.next i 0) (get_or s.list_prev i 0) (get_or s.list_next i 0) ≡ true) e (all-at _ n h i b)) in
+      let f = ok-fresh _ _ _ _ _ _
+      (subst
+      (λ (t : Bool). record_ok t (get_or s.start i 0) (get_or s.end i 0) (get_or s.previous i 0) (get_or s.next i 0) (get_or s.list_prev i 0) (get_or s.list_next i 0) ≡ true)
+      e (all-at _ n h i b)) in
       record { start = f.0; end = f.1; previous = f.2; next = f.3; list_prev = f.4; list_next = f.5 }
 
   module _ (good : Proper n s.start s.end s.enabled) where
@@ -74,8 +76,7 @@ module _ (n : ℕ) (small : n ≤ none) (s : MemoryAllocator) where
     chain-found h =
         let w = and-true (onward (λ f. eqb f 0) (chain_walk n s.start s.end s.enabled s.previous s.next c none 0 at_first)) _ h in
         let o = onward-told (λ f. eqb f 0) (chain_walk n s.start s.end s.enabled s.previous s.next c none 0 at_first) w.0 in (
-          walk_meets small s.next chain-kind c 0 none 0 at_first
-              (o.1 ∙ ap Of (eqb-true o.0 0 o.2)),
+          walk_meets small s.next chain-kind c 0 none 0 at_first (o.1 ∙ ap Some (eqb-true o.0 0 o.2)),
           eqb-true _ _ w.1,
         )
 
@@ -133,7 +134,10 @@ module _ (n : ℕ) (small : n ≤ none) (s : MemoryAllocator) where
           (λ (b : k < size_lists).
           let m = mets k b in record {
             these = λ x h. m.met.these x (rw m.same h);
-            once = subst (InOrder (λ x y. x ≢ y)) m.same (listed-once n m.met.list (linked-listed n small (λ j. get_or s.list_next j 0) (λ j. get_or s.list_prev j 0) m.met.list (met-linked k (head_at n s k) m.given m.left m.met)));
+            once =
+                let linked = met-linked k (head_at n s k) m.given m.left m.met in
+                let listed = linked-listed n small (λ j. get_or s.list_next j 0) (λ j. get_or s.list_prev j 0) m.met.list linked in
+                subst (InOrder (λ x y. x ≢ y)) m.same (listed-once n m.met.list listed);
           })
           (λ (b : size_lists ≤ k).
           let e : ls k ≡ [] = linked-follow n small s.list_next s.list_prev (head_at n s k) [] tt (rw (le-ltb k size_lists b)) in record {

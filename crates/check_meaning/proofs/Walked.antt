@@ -13,8 +13,7 @@ use Rattle.linked_lists.proofs.Laws.{true≢false}
 use Rattle.linked_lists.proofs.Check.{linked-listed}
 use Rattle.check_links.specs.Walk.{walk}
 use Rattle.check_meaning.specs.Paragraph.{Leads, Back, InOrder, Meets}
-use Rattle.check_records.specs.declared.Tally.{Tally}
-use Rattle.check_records.specs.declared.Tally.TheVariants.{Of, Broken}
+use Rattle.std.specs.Prelude.{Option, Some, None}
 use Rattle.check_links.proofs.Walk.{walk_ends, walk-goes}
 use Rattle.check_meaning.proofs.Orders.{has_first, each, rest, leads-linked, listed-once}
 
@@ -26,11 +25,12 @@ pub record Tests (n : ℕ) (prev : List ℕ) (from past : ℕ → ℕ) (These : 
   pub ahead : (x y : ℕ) → past x ≤ from y → R x y
   pub behind : (x y : ℕ) → R x y → past x ≤ from y
 
-module _ {n : ℕ} (small : n ≤ none) (next : List ℕ) {prev : List ℕ} {from past : ℕ → ℕ} {These : ℕ → Type 0} {R : ℕ → ℕ → Type 0} {step : ℕ → ℕ → ℕ → Bool} (t : Tests n prev from past These R step) where
+module _ {n : ℕ} (small : n ≤ none) (next : List ℕ) {prev : List ℕ} {from past : ℕ → ℕ} {These : ℕ → Type 0} {R : ℕ → ℕ → Type 0}
+    {step : ℕ → ℕ → ℕ → Bool} (t : Tests n prev from past These R step) where
   abbrev N : ℕ → ℕ
   N i = get_or next i 0
 
-  abbrev go : ℕ → ℕ → ℕ → ℕ → Tally
+  abbrev go : ℕ → ℕ → ℕ → ℕ → Option ℕ
   go = walk N past step
 
   -- ---- what a walk meets
@@ -44,27 +44,27 @@ module _ {n : ℕ} (small : n ≤ none) (next : List ℕ) {prev : List ℕ} {fro
     pub order : InOrder R list
     pub long : length list + g ≡ f
 
-  met-none : (q low i f g : ℕ) → i ≡ none → Of f ≡ Of g → Met q low i f g
+  met-none : (q low i f g : ℕ) → i ≡ none → Some f ≡ Some g → Met q low i f g
   met-none q low i f g e h =
       let k : f ≡ g = cc in
       record { list = []; leads = e; back = tt; these = λ x m. true≢false (sym m); least = λ x m. true≢false (sym m); order = tt; long = omega arith }
 
-  not-broken : {A : Type 0} (g : ℕ) → Broken ≡ Of g → A
-  not-broken g h = let z : ◌≡◌ {A = ℕ} 0 1 = cc in absurd (let k : ⊥ = omega arith in k)
+  not-none : {A : Type 0} (g : ℕ) → None ≡ Some g → A
+  not-none g h = let z : ◌≡◌ {A = ℕ} 0 1 = cc in absurd (let k : ⊥ = omega arith in k)
 
-  pub walk_meets : (f g q low i : ℕ) → go f q low i ≡ Of g → Met q low i f g
+  pub walk_meets : (f g q low i : ℕ) → go f q low i ≡ Some g → Met q low i f g
   unfolding walk
   walk_meets zero g q low i = split (eqb i none) refl
     where
-      split : (a : Bool) → eqb i none ≡ a → cond a (Of 0) Broken ≡ Of g → Met q low i 0 g
+      split : (a : Bool) → eqb i none ≡ a → cond a (Some 0) None ≡ Some g → Met q low i 0 g
       split true ea h = met-none q low i 0 g (eqb-true i none ea) h
-      split false ea h = not-broken g h
+      split false ea h = not-none g h
   walk_meets (suc f) g q low i = split (walk_meets f g i (past i) (N i)) (eqb i none) (step q low i) refl refl
     where
-      split : (go f i (past i) (N i) ≡ Of g → Met i (past i) (N i) f g) → (a b : Bool) → eqb i none ≡ a → step q low i ≡ b
-          → cond a (Of (suc f)) (cond b (go f i (past i) (N i)) Broken) ≡ Of g → Met q low i (suc f) g
+      split : (go f i (past i) (N i) ≡ Some g → Met i (past i) (N i) f g) → (a b : Bool) → eqb i none ≡ a → step q low i ≡ b
+          → cond a (Some (suc f)) (cond b (go f i (past i) (N i)) None) ≡ Some g → Met q low i (suc f) g
       split ih true b ea eb h = met-none q low i (suc f) g (eqb-true i none ea) h
-      split ih false false ea eb h = not-broken g h
+      split ih false false ea eb h = not-none g h
       split ih false true ea eb h =
           let r = ih h in
           let w = t.told q low i eb in
@@ -93,8 +93,8 @@ module _ {n : ℕ} (small : n ≤ none) (next : List ℕ) {prev : List ℕ} {fro
   -- ---- a walk along a list
 
   list-walk : (xs : List ℕ) (g q low i : ℕ) → Leads next i xs → Back prev q xs → ((x : ℕ) → has x xs ≡ true → (x < n) × These x)
-      → ((x : ℕ) → has x xs ≡ true → low ≤ from x) → InOrder R xs → go (length xs + g) q low i ≡ Of g
-  list-walk [] g q low i l b m a o = walk_ends N past step (0 + g) q low i l ∙ ap Of (zero-add g)
+      → ((x : ℕ) → has x xs ≡ true → low ≤ from x) → InOrder R xs → go (length xs + g) q low i ≡ Some g
+  list-walk [] g q low i l b m a o = walk_ends N past step (0 + g) q low i l ∙ ap Some (zero-add g)
   list-walk (x ∷ xs) g q low i l b m a o =
       let w = m x (has_first x xs) in
       let bx = w.0 in
@@ -104,5 +104,5 @@ module _ {n : ℕ} (small : n ≤ none) (next : List ℕ) {prev : List ℕ} {fro
       ∙ ap (λ (f : ℕ). go f x (past x) (N x)) e
       ∙ list-walk xs g x (past x) (N x) l.1 b.1 (rest x xs m) (λ y k. t.behind x y (o.0 y k)) o.1)
 
-  pub meets-walk : (i g : ℕ) (m : Meets n These R next prev i) → go (length m.list + g) none 0 i ≡ Of g
+  pub meets-walk : (i g : ℕ) (m : Meets n These R next prev i) → go (length m.list + g) none 0 i ≡ Some g
   meets-walk i g m = list-walk m.list g none 0 i m.leads m.reverse (λ x k. (m.exactly x).0 k) (λ x k. zero-le) m.order

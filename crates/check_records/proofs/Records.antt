@@ -14,8 +14,7 @@ use Rattle.linked_lists.specs.Links.{pick, none, count}
 use Rattle.linked_lists.proofs.Laws.{same?, true≢false}
 use Rattle.rules.specs.Rules.{top}
 use Rattle.check_records.specs.Records.{proper, unlinked, record_ok, all, record_at, used, records, Proper}
-use Rattle.check_records.specs.declared.Tally.{Tally}
-use Rattle.check_records.specs.declared.Tally.TheVariants.{Of, Broken}
+use Rattle.std.specs.Prelude.{Option, Some, None}
 use Rattle.check_records.proofs.Tests.{and-true, true-and}
 use Rattle.check_records.proofs.Bits.{zero-is-or}
 
@@ -121,22 +120,22 @@ module _ (n : ℕ) (start end : List ℕ) (enabled : List Bool) (previous next l
   abbrev ok : ℕ → Bool
   ok = record_at start end enabled previous next lprev lnext
 
-  abbrev result : Tally
+  abbrev result : Option ℕ
   result = records n start end enabled previous next lprev lnext
 
-  pub records-broken : (i : ℕ) → i < n → ok i ≡ false → result ≡ Broken
+  pub records-broken : (i : ℕ) → i < n → ok i ≡ false → result ≡ None
   unfolding records
   records-broken i b e = rw (all-fails ok n i b e)
 
-  pub records-counted : (m : ℕ) → m ≡ n → all ok m ≡ true → result ≡ Of (count (used enabled) m)
+  pub records-counted : (m : ℕ) → m ≡ n → all ok m ≡ true → result ≡ Some (count (used enabled) m)
   unfolding records
   records-counted m e h = rw (rw e at h, e)
 
-  pub records-all : (c : ℕ) → result ≡ Of c → all ok n ≡ true
+  pub records-all : (c : ℕ) → result ≡ Some c → all ok n ≡ true
   unfolding records
   records-all c h = go (all ok n) h
     where
-      go : (t : Bool) → cond t (Of (count (used enabled) n)) Broken ≡ Of c → t ≡ true
+      go : (t : Bool) → cond t (Some (count (used enabled) n)) None ≡ Some c → t ≡ true
       go true h = refl
       go false h = let z : ◌≡◌ {A = ℕ} 0 1 = cc in absurd (let k : ⊥ = omega arith in k)
 
@@ -146,5 +145,5 @@ module _ (n : ℕ) (start end : List ℕ) (enabled : List Bool) (previous next l
       let w = and-true (leb (get_or start i 0) (get_or end i 0)) (ltb (get_or end i 0) top) (rw e at (all-at ok n h i b)) in
       (leb-true _ _ w.0, ltb-true _ _ w.1)
 
-  pub records-proper : (c : ℕ) → result ≡ Of c → Proper n start end enabled
+  pub records-proper : (c : ℕ) → result ≡ Some c → Proper n start end enabled
   records-proper c h = all-proper (records-all c h)

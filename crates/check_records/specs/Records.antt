@@ -1,9 +1,7 @@
 -- The test of each record, and the count of those in use. n is the number of records. Assumes nothing.
-use Rattle.std.specs.Prelude.{ℕ, zero, suc, ◌<◌, ◌≤◌, Bool, true, false, cond, ◌&&◌, List, ◌≡◌, eqb, leb, ltb, get_or}
+use Rattle.std.specs.Prelude.{ℕ, zero, suc, ◌<◌, ◌≤◌, Bool, true, false, cond, ◌&&◌, List, ◌≡◌, eqb, leb, ltb, get_or, Option, Some, None}
 use Rattle.linked_lists.specs.Links.{none, count}
 use Rattle.rules.specs.Rules.{top}
-use Rattle.check_records.specs.declared.Tally.{Tally}
-use Rattle.check_records.specs.declared.Tally.TheVariants.{Of, Broken}
 
 -- a record in use holds a range below 2^63; an unused one is as in a new state
 unfoldable pub proper : ℕ → ℕ → Bool
@@ -28,9 +26,9 @@ record_at start end enabled previous next lprev lnext i =
 abbrev pub used : List Bool → ℕ → Bool
 used enabled i = get_or enabled i false
 
--- how many records are in use
-unfoldable pub records : ℕ → List ℕ → List ℕ → List Bool → List ℕ → List ℕ → List ℕ → List ℕ → Tally
-records n start end enabled previous next lprev lnext = cond (all (record_at start end enabled previous next lprev lnext) n) (Of (count (used enabled) n)) Broken
+-- how many records are in use, unless one is broken
+unfoldable pub records : ℕ → List ℕ → List ℕ → List Bool → List ℕ → List ℕ → List ℕ → List ℕ → Option ℕ
+records n start end enabled previous next lprev lnext = cond (all (record_at start end enabled previous next lprev lnext) n) (Some (count (used enabled) n)) None
 
 -- the records in use hold ranges below 2^63
 abbrev pub Proper : ℕ → List ℕ → List ℕ → List Bool → Type 0

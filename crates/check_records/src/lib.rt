@@ -7,13 +7,6 @@ ghost use Rattle.check_records.specs.Records.{proper, unlinked, record_ok, recor
 
 use pool_state::{Address, NONE, POOL, RecordIndex, TOP};
 
-// A number of records, unless a record or a link is broken.
-#[derive(Clone, Copy)]
-pub enum Tally {
-    Of(usize),
-    Broken,
-}
-
 // A range of one byte or more, below TOP.
 pub fn is_proper(start: Address, end: Address) -> bool
     ensures { result ≡ proper start.0 end.0 }
@@ -53,7 +46,7 @@ fn is_fresh(
     is_unlinked(previous, next, lprev, lnext)
 }
 
-// How many records are in use. Each kind has its own way through the loop: most records are unused, and on theirs nothing is counted.
+// How many records are in use, unless one is broken. Each kind has its own way through the loop: most records are unused, and on theirs nothing is counted.
 pub fn tally_records(
     start: &[u64; POOL],
     end: &[u64; POOL],
@@ -62,7 +55,7 @@ pub fn tally_records(
     next: &[u16; POOL],
     lprev: &[u16; POOL],
     lnext: &[u16; POOL],
-) -> Tally
+) -> Option<usize>
     ensures { result ≡ records pool start.now end.now enabled.now previous.now next.now lprev.now lnext.now }
 {
     let mut count: usize = 0;
@@ -72,7 +65,7 @@ pub fn tally_records(
                 count += 1;
                 continue;
             }
-            return Tally::Broken;
+            return None;
         }
         if is_fresh(
             Address(start[i]),
@@ -84,7 +77,7 @@ pub fn tally_records(
         ) {
             continue;
         }
-        return Tally::Broken;
+        return None;
     }
-    Tally::Of(count)
+    Some(count)
 }

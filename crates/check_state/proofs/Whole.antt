@@ -1,7 +1,6 @@
 -- The whole check.
 use Prim.Native.Nat.{ℕ}
 use mathlib.Core.Bool.{Bool, true, false, cond, ◌&&◌}
-use mathlib.Core.Logic.{◌≢◌}
 use mathlib.Core.Path.{◌≡◌, refl, sym}
 use Rattle.linked_lists.specs.Links.{count}
 use Rattle.linked_lists.proofs.Laws.{true≢false}
@@ -10,15 +9,15 @@ use Rattle.pool_state.specs.declared.MemoryAllocator.{MemoryAllocator}
 use Rattle.check_links.specs.Walk.{onward}
 use Rattle.check_records.specs.Records.{all, record_at, used, records}
 use Rattle.check_state.specs.IsSound.{is_sound_lem, records_in, chain_in, lists_in}
-use Rattle.check_records.specs.declared.Tally.TheVariants.{Of, Broken}
+use Rattle.std.specs.Prelude.{Some, None}
 use Rattle.check_records.proofs.Tests.{and-true}
 
 module _ (n : ℕ) (s : MemoryAllocator) where
-  pub sound-broken : records_in n s ≡ Broken → is_sound_lem n s ≡ false
+  pub sound-broken : records_in n s ≡ None → is_sound_lem n s ≡ false
   unfolding is_sound_lem
   sound-broken h = rw h
 
-  pub sound-of : (c : ℕ) → records_in n s ≡ Of c → is_sound_lem n s ≡ (chain_in n s c && lists_in n s size_lists 0 c)
+  pub sound-of : (c : ℕ) → records_in n s ≡ Some c → is_sound_lem n s ≡ (chain_in n s c && lists_in n s size_lists 0 c)
   unfolding is_sound_lem
   sound-of c h = rw h
 
@@ -32,6 +31,7 @@ module _ (n : ℕ) (s : MemoryAllocator) where
   unfolding is_sound_lem records
   sound-told = go every
     where
-      go : (t : Bool) → onward (λ k. chain_in n s k && lists_in n s size_lists 0 k) (cond t (Of c) Broken) ≡ true → (t ≡ true) × (chain_in n s c ≡ true) × (lists_in n s size_lists 0 c ≡ true)
+      go : (t : Bool) → onward (λ k. chain_in n s k && lists_in n s size_lists 0 k) (cond t (Some c) None) ≡ true
+          → (t ≡ true) × (chain_in n s c ≡ true) × (lists_in n s size_lists 0 c ≡ true)
       go true h = let w = and-true (chain_in n s c) (lists_in n s size_lists 0 c) h in (refl, w.0, w.1)
       go false h = true≢false (sym h)

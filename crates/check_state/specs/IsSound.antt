@@ -1,13 +1,12 @@
 -- The check of a state: its records, its chain and its size lists. n is the number of records. Assumes nothing.
-use Rattle.std.specs.Prelude.{ℕ, Bool, ◌&&◌}
-use Rattle.rules.specs.Rules.{size_lists, size}
+use Rattle.std.specs.Prelude.{ℕ, Bool, ◌&&◌, Option}
+use Rattle.rules.specs.Rules.{size_lists}
 use Rattle.pool_state.specs.declared.MemoryAllocator.{MemoryAllocator}
 use Rattle.check_links.specs.Walk.{onward}
-use Rattle.check_records.specs.declared.Tally.{Tally}
 use Rattle.check_records.specs.Records.{records}
 use Rattle.check_links.specs.Walks.{chain_ok_lem, lists_ok_lem}
 
-abbrev pub records_in : ℕ → MemoryAllocator → Tally
+abbrev pub records_in : ℕ → MemoryAllocator → Option ℕ
 records_in n s = records n s.start s.end s.enabled s.previous s.next s.list_prev s.list_next
 
 abbrev pub chain_in : ℕ → MemoryAllocator → ℕ → Bool

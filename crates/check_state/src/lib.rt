@@ -5,11 +5,10 @@ ghost use Rattle.std.specs.Prelude.{◌≡◌};
 ghost use Rattle.pool_state.specs.Shown.{pool};
 ghost use Rattle.pool_state.specs.State.{arrays};
 ghost use Rattle.check_records.specs.Records.{records};
-ghost use Rattle.check_records.specs.declared.Tally.TheVariants.{Of};
 ghost use Rattle.check_state.specs.IsSound.{is_sound_lem};
 
 use check_links::{chain_ok, lists_ok};
-use check_records::{Tally, tally_records};
+use check_records::tally_records;
 use pool_state::{LISTS, MemoryAllocator, POOL, RecordIndex};
 
 // The same of arrays whose records were found to be right, `count` of them in use: what is left are the chain and the size lists.
@@ -26,7 +25,7 @@ pub fn links_ok(
     lnext: &[u16; POOL],
     count: usize,
 ) -> bool
-    requires { records pool start.now end.now enabled.now previous.now next.now lprev.now lnext.now ≡ Of count }
+    requires { records pool start.now end.now enabled.now previous.now next.now lprev.now lnext.now ≡ Some count }
     ensures { result ≡ is_sound_lem pool (arrays total first.0 heads.now start.now end.now enabled.now previous.now next.now lprev.now lnext.now) }
 {
     if !chain_ok(total, first, start, end, enabled, previous, next, count) {
@@ -50,8 +49,7 @@ pub fn is_sound_in(
 ) -> bool
     ensures { result ≡ is_sound_lem pool (arrays total first.0 heads.now start.now end.now enabled.now previous.now next.now lprev.now lnext.now) }
 {
-    let tally = tally_records(start, end, enabled, previous, next, lprev, lnext);
-    let Tally::Of(count) = tally else {
+    let Some(count) = tally_records(start, end, enabled, previous, next, lprev, lnext) else {
         return false;
     };
     links_ok(

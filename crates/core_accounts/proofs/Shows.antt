@@ -2,6 +2,7 @@
 use Prim.Native.Nat.{ℕ, ◌≤◌}
 use mathlib.Core.Bool.{true, false}
 use mathlib.Core.List.{List}
+use Rattle.std.specs.Prelude.{Option}
 use mathlib.Core.Path.{◌≡◌, ap, ◌∙◌}
 use Rattle.linked_lists.specs.Links.{none}
 use Rattle.pool_state.specs.Sound.{book_of}
@@ -12,11 +13,10 @@ use Rattle.check_meaning.specs.Paragraph.{Sized}
 use Rattle.check_meaning.proofs.Exact.{passes-sound}
 use Rattle.pool_chain.specs.Chain.{Ordered}
 use Rattle.pool_listing.specs.Listing as in_place
-use Rattle.pool_listing.specs.declared.Listed.{Listed}
-use Rattle.calls.specs.declared.Answer.TheVariants.{InvalidEntry}
+use Rattle.calls.specs.declared.MemoryError.TheVariants.{InvalidEntry}
 use Rattle.pool_chain.proofs.Held.{chain-ordered}
 use Rattle.core_accounts.specs.Accounts.{counted, refused, total_of, listed_answer, listing_of, shown_of, Lists}
-use Rattle.calls.specs.declared.Counted.{Counted}
+use Rattle.calls.specs.Calls.{Counted}
 
 module _ (n : ℕ) (small : n ≤ none) (s : MemoryAllocator) where
   pub ordered : Sized n s → is_sound_lem n s ≡ true → Ordered n (book_of n s).chain s.start s.end s.next s.first_entry.0
@@ -34,7 +34,7 @@ module _ (n : ℕ) (small : n ≤ none) (s : MemoryAllocator) where
   unfolding listing_of shown_of
   unsound-lists starts lasts e = record { answer = rw e; starts-now = rw e; lasts_now = rw e }
 
-  pub sound-lists : (starts lasts starts' lasts' : List ℕ) (k : Listed) (r : Counted) → is_sound_lem n s ≡ true → in_place.Lists (book_of n s).chain starts lasts k starts' lasts' → r ≡ listed_answer k → Lists n s starts lasts r starts' lasts'
+  pub sound-lists : (starts lasts starts' lasts' : List ℕ) (k : Option ℕ) (r : Counted) → is_sound_lem n s ≡ true → in_place.Lists (book_of n s).chain starts lasts k starts' lasts' → r ≡ listed_answer k → Lists n s starts lasts r starts' lasts'
   unfolding listing_of shown_of
   sound-lists starts lasts starts' lasts' k r e l q = record {
     answer = q ∙ ap listed_answer l.answer ∙ rw e;

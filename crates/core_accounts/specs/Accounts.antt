@@ -1,31 +1,38 @@
 -- The total and the listing of a state. n is the number of records. Assumes nothing.
-use Rattle.std.specs.Prelude.{ℕ, cond, List, ◌≡◌, length}
+use Rattle.std.specs.Prelude.{ℕ, cond, Option, Some, None, List, ◌≡◌, length, Ok, Err}
 use Rattle.rules.specs.Rules as rules
 use Rattle.rules.specs.Rules.{Range, start_of}
 use Rattle.pool_state.specs.Sound.{book_of}
 use Rattle.pool_state.specs.declared.MemoryAllocator.{MemoryAllocator}
 use Rattle.check_state.specs.IsSound.{is_sound_lem}
 use Rattle.pool_listing.specs.Listing.{last_of, listed_of, shown}
-use Rattle.pool_listing.specs.declared.Listed.{Listed}
-use Rattle.pool_listing.specs.declared.Listed.TheVariants.{Count, Short}
-use Rattle.calls.specs.declared.Answer.{Answer}
-use Rattle.calls.specs.declared.Answer.TheVariants.{Accepted, InvalidEntry, InvalidRequest}
-use Rattle.calls.specs.declared.Counted.{Counted}
+use Rattle.calls.specs.Calls.{Answer, Counted}
+use Rattle.calls.specs.declared.MemoryError.{MemoryError}
+use Rattle.calls.specs.declared.MemoryError.TheVariants.{InvalidEntry, InvalidRequest}
 
 abbrev pub counted : ℕ → Counted
-counted v = record { answer = Accepted (record { 0 = 0 }); value = v }
+counted v = Ok v
 
 -- a refusal has no value
-abbrev pub refused : Answer → Counted
-refused k = record { answer = k; value = 0 }
+abbrev pub refused : MemoryError → Counted
+refused e = Err e
+
+-- the answer that goes with it, and the number; 0 where it is refused
+abbrev pub answer_in : Counted → Answer
+answer_in (Ok v) = Ok (record { 0 = 0 })
+answer_in (Err e) = Err e
+
+abbrev pub value_of : Counted → ℕ
+value_of (Ok v) = v
+value_of (Err e) = 0
 
 unfoldable pub total_of : ℕ → MemoryAllocator → Counted
 total_of n s = cond (is_sound_lem n s) (counted (rules.total (book_of n s))) (refused InvalidEntry)
 
 -- the number of ranges, if both slices have room for as many
-abbrev pub listed_answer : Listed → Counted
-listed_answer (Count c) = counted c
-listed_answer Short = refused InvalidRequest
+abbrev pub listed_answer : Option ℕ → Counted
+listed_answer (Some c) = counted c
+listed_answer None = refused InvalidRequest
 
 unfoldable pub listing_of : ℕ → MemoryAllocator → ℕ → ℕ → Counted
 listing_of n s m k = cond (is_sound_lem n s) (listed_answer (listed_of (book_of n s).chain m k)) (refused InvalidEntry)

@@ -5,40 +5,28 @@ ghost use Rattle.std.specs.Prelude.{◌≡◌};
 ghost use Rattle.pool_state.specs.Shown.{pool};
 ghost use Rattle.core_accounts.specs.Accounts.{total_of, listed_answer, Lists};
 
-use calls::{Answer, Counted};
+use calls::{Counted, MemoryError};
 use check_state::is_sound;
-use pool_listing::{Listed, list_in};
-use pool_state::{Address, MemoryAllocator};
+use pool_listing::list_in;
+use pool_state::MemoryAllocator;
 
 // The number of free bytes.
 pub fn total(s: MemoryAllocator) -> Counted
     ensures { result ≡ total_of pool s }
 {
     if is_sound(s) {
-        return Counted {
-            answer: Answer::Accepted(Address(0)),
-            value: s.free_size,
-        };
+        return Ok(s.free_size);
     }
-    Counted {
-        answer: Answer::InvalidEntry,
-        value: 0,
-    }
+    Err(MemoryError::InvalidEntry)
 }
 
 // The answer of a listing.
-fn answer_listed(listed: Listed) -> Counted
+fn answer_listed(listed: Option<usize>) -> Counted
     ensures { result ≡ listed_answer listed }
 {
     match listed {
-        Listed::Count(count) => Counted {
-            answer: Answer::Accepted(Address(0)),
-            value: count as u64,
-        },
-        Listed::Short => Counted {
-            answer: Answer::InvalidRequest,
-            value: 0,
-        },
+        Some(count) => Ok(count as u64),
+        None => Err(MemoryError::InvalidRequest),
     }
 }
 
@@ -53,8 +41,5 @@ pub fn listing(s: MemoryAllocator, starts: &mut [u64], lasts: &mut [u64]) -> Cou
         let listed = list_in(&start, &end, &next, s.first_entry, starts, lasts);
         return answer_listed(listed);
     }
-    Counted {
-        answer: Answer::InvalidEntry,
-        value: 0,
-    }
+    Err(MemoryError::InvalidEntry)
 }

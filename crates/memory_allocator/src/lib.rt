@@ -6,7 +6,7 @@ ghost use Rattle.std.specs.Prelude.{◌≡◌};
 ghost use Rattle.pool_state.specs.Shown.{pool};
 ghost use Rattle.memory_allocator.specs.Promises.{allocate_of, reserve_of, free_of};
 
-pub use calls::{Answer, Counted, Outcome, Request};
+pub use calls::{Answer, Counted, MemoryError, Outcome, Request};
 pub use check_state::is_sound;
 pub use core_accounts::{listing, total};
 pub use core_serve::serve;

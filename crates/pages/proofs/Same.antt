@@ -10,8 +10,9 @@ use Rattle.rules.specs.Rules as rules
 use Rattle.rules.specs.Rules.{Book, refused}
 use Rattle.rules_laws.proofs.Lists.{if, or-e, or_r, T-no, T_true, T_false}
 use Rattle.pool_state.specs.declared.MemoryAllocator.{MemoryAllocator}
-use Rattle.calls.specs.declared.Answer.{Answer}
-use Rattle.calls.specs.declared.Answer.TheVariants.{InvalidEntry, InvalidRequest}
+use Rattle.std.specs.Prelude.{Err}
+use Rattle.calls.specs.declared.MemoryError.{MemoryError}
+use Rattle.calls.specs.declared.MemoryError.TheVariants.{InvalidEntry, InvalidRequest}
 use Rattle.check_meaning.specs.Paragraph.{Sized}
 use Rattle.check_meaning.proofs.Exact.{passes-sound}
 use Rattle.core_serve.specs.Made.{judged}
@@ -64,10 +65,10 @@ none-freed n a z b e = rw e
 
 -- ---- the calls
 
-abbrev outcome : Answer → MemoryAllocator → Outcome
-outcome k s = record { answer = k; state = s }
+abbrev outcome : MemoryError → MemoryAllocator → Outcome
+outcome k s = record { answer = Err k; state = s }
 
-line : (q : Bool) (k : Answer) (s : MemoryAllocator) (w v : Outcome) → (T q → outcome k s ≡ v) → (T (not q) → w ≡ v) → refuse q k s w ≡ v
+line : (q : Bool) (k : MemoryError) (s : MemoryAllocator) (w v : Outcome) → (T q → outcome k s ≡ v) → (T (not q) → w ≡ v) → refuse q k s w ≡ v
 unfolding refuse
 line q k s w v f g = if q (λ (x : Outcome). x ≡ v) f g
 

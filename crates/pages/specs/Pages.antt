@@ -1,8 +1,8 @@
 -- What each page call answers and leaves, for every state and all numbers. n is the number of records. Assumes nothing.
-use Rattle.std.specs.Prelude.{ℕ, ◌*◌, ◌%◌, ◌^◌, Bool, cond, not, ◌||◌, eqb, ltb}
+use Rattle.std.specs.Prelude.{ℕ, ◌*◌, ◌%◌, ◌^◌, Bool, cond, not, ◌||◌, eqb, ltb, Err}
 use Rattle.pool_state.specs.declared.MemoryAllocator.{MemoryAllocator}
-use Rattle.calls.specs.declared.Answer.{Answer}
-use Rattle.calls.specs.declared.Answer.TheVariants.{InvalidEntry, InvalidRequest}
+use Rattle.calls.specs.declared.MemoryError.{MemoryError}
+use Rattle.calls.specs.declared.MemoryError.TheVariants.{InvalidEntry, InvalidRequest}
 use Rattle.calls.specs.declared.Outcome.{Outcome}
 use Rattle.memory_allocator.specs.Names.{is_sound_lem}
 use Rattle.memory_allocator.specs.Promises.{allocate_of, free_of}
@@ -29,9 +29,9 @@ unaligned a = not (eqb (a % page) 0)
 unfoldable pub raised : ℕ → ℕ
 raised o = cond (ltb o page_order) page_order o
 
--- where the line applies, its answer and the state as it was; else the lines below it decide
-unfoldable pub refuse : Bool → Answer → MemoryAllocator → Outcome → Outcome
-refuse c k s below = cond c (record { answer = k; state = s }) below
+-- where the line applies, its refusal and the state as it was; else the lines below it decide
+unfoldable pub refuse : Bool → MemoryError → MemoryAllocator → Outcome → Outcome
+refuse c k s below = cond c (record { answer = Err k; state = s }) below
 
 unfoldable pub allocate_pages_of : ℕ → MemoryAllocator → ℕ → ℕ → Outcome
 allocate_pages_of n s c o =

@@ -1,9 +1,7 @@
 -- The listing: the starts and the last bytes of the free ranges, by address, in two lent slices. c is the chain. Assumes nothing.
-use Rattle.std.specs.Prelude.{ℕ, ◌≤◌, Bool, cond, ◌||◌, List, ◌++◌, map, ◌≡◌, ltb, length, drop}
+use Rattle.std.specs.Prelude.{ℕ, ◌≤◌, Bool, cond, ◌||◌, Option, Some, None, List, ◌++◌, map, ◌≡◌, ltb, length, drop}
 use Rattle.rules.specs.Rules.{Range, start_of}
 use Rattle.pool_chain.specs.Chain.{Ordered}
-use Rattle.pool_listing.specs.declared.Listed.{Listed}
-use Rattle.pool_listing.specs.declared.Listed.TheVariants as listed
 
 abbrev pub last_of : Range → ℕ
 last_of r = r.last
@@ -12,9 +10,9 @@ last_of r = r.last
 abbrev pub short : List Range → ℕ → ℕ → Bool
 short c m n = ltb m (length c) || ltb n (length c)
 
--- the answer, for slices of m and n places
-unfoldable pub listed_of : List Range → ℕ → ℕ → Listed
-listed_of c m n = cond (short c m n) listed.Short (listed.Count (length c))
+-- the number of ranges, if both slices, of m and n places, have room for as many
+unfoldable pub listed_of : List Range → ℕ → ℕ → Option ℕ
+listed_of c m n = cond (short c m n) None (Some (length c))
 
 -- xs in the first places; those past them keep their contents
 abbrev pub written : {X : Type 0} → List X → List X → List X
@@ -36,7 +34,7 @@ pub record Wrote (c : List Range) (starts lasts starts' lasts' : List ℕ) : Typ
   pub lasts_now : lasts' ≡ written (map last_of c) lasts
 
 -- what the listing answers and leaves
-pub record Lists (c : List Range) (starts lasts : List ℕ) (r : Listed) (starts' lasts' : List ℕ) : Type 0 where
+pub record Lists (c : List Range) (starts lasts : List ℕ) (r : Option ℕ) (starts' lasts' : List ℕ) : Type 0 where
   pub answer : r ≡ listed_of c (length starts) (length lasts)
   pub starts-now : starts' ≡ shown start_of c (length starts) (length lasts) starts
   pub lasts_now : lasts' ≡ shown last_of c (length starts) (length lasts) lasts

@@ -11,13 +11,6 @@ ghost use Rattle.pool_listing.specs.Listing.{Roomy, Wrote, Lists};
 use pool_links::link_of;
 use pool_state::{NONE, POOL, RecordIndex};
 
-// The number of ranges listed, or that a slice is shorter than it.
-#[derive(Clone, Copy)]
-pub enum Listed {
-    Count(usize),
-    Short,
-}
-
 // The number of free ranges.
 pub fn count_entries(next: &[u16; POOL], first: RecordIndex) -> usize
     requires { (c : List Range) × (start : List ℕ) × (end : List ℕ) × Ordered pool c start end next.now first.0 }
@@ -55,7 +48,7 @@ fn write_entries(
     }
 }
 
-// The free ranges in two slices; where either is too short, nothing is written.
+// The free ranges in two slices, and their number; where either is too short, nothing is written, and there is none.
 pub fn list_in(
     start: &[u64; POOL],
     end: &[u64; POOL],
@@ -63,17 +56,17 @@ pub fn list_in(
     first: RecordIndex,
     starts: &mut [u64],
     lasts: &mut [u64],
-) -> Listed
+) -> Option<usize>
     requires { (c : List Range) × Ordered pool c start.now end.now next.now first.0 }
     ensures { (c : List Range) → Ordered pool c start.now end.now next.now first.0 → Lists c (was starts) (was lasts) result (is starts) (is lasts) }
 {
     let count = count_entries(next, first);
     if starts.len() < count {
-        return Listed::Short;
+        return None;
     }
     if lasts.len() < count {
-        return Listed::Short;
+        return None;
     }
     write_entries(start, end, next, first, starts, lasts);
-    Listed::Count(count)
+    Some(count)
 }

@@ -1,8 +1,8 @@
 use mathlib.Core.Path.{sym, ◌∙◌}
 use lib.ListN.{get_or-eq_default}
 use native.Mathlib.Omega.{arith}
+use Rattle.std.specs.Prelude.{None}
 use Rattle.batch.specs.InWords.{asked}
-use Rattle.batch.specs.declared.Asked.TheVariants.{Unknown}
 use Rattle.batch.proofs.InWords.{asked-length}
 use Rattle.batch.proofs.asked_at.Goals as goal
 
@@ -17,4 +17,4 @@ returns-then-k-calls c =
 pub returns : goal.returns
 returns c =
     let calls = c.args.calls.now in
-    sym (get_or-eq_default (asked calls) Unknown (omega (arith, asked-length calls)))
+    sym (get_or-eq_default (asked calls) None (omega (arith, asked-length calls)))

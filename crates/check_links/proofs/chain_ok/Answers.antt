@@ -30,7 +30,8 @@ returns-then-not-chain_step c =
 stepped : (c : Else-not-chain_step) → let x = c.args in let l = c.loop-cur in chain_step_lem pool x.start.now x.enabled.now x.previous.now l.before.0 l.low l.cur.0 ≡ true
 stepped c = sym c.chain_step.ensures ∙ not-false c.chain_step.result (ap not c.if-not-chain_step.false)
 
-here : (c : Else-not-chain_step) → let x = c.args in let l = c.loop-cur in (l.cur.0 < pool) × (l.low ≤ get_or x.start.now l.cur.0 0) × (get_or x.start.now l.cur.0 0 ≤ get_or x.end.now l.cur.0 0) × (get_or x.end.now l.cur.0 0 < top)
+here : (c : Else-not-chain_step) → let x = c.args in let l = c.loop-cur in (l.cur.0 < pool) × (l.low ≤ get_or x.start.now l.cur.0 0)
+    × (get_or x.start.now l.cur.0 0 ≤ get_or x.end.now l.cur.0 0) × (get_or x.end.now l.cur.0 0 < top)
 here c =
     passes pool c.args.first.0 c.args.start.now c.args.end.now c.args.enabled.now c.args.previous.now c.args.next.now
     c.args.count c.requires _ _ _ (stepped c)

@@ -1,4 +1,4 @@
-use Prim.Native.Nat.{◌-◌, ◌≤◌}
+use Prim.Native.Nat.{◌-◌}
 use mathlib.Core.Path.{◌≡◌}
 use Rattle.rules.specs.Rules.{size_lists}
 use Rattle.pool_state.specs.Shown.{pool}
@@ -8,8 +8,5 @@ use Rattle.check_links.proofs.lists_ok.Given as goal
 
 abbrev pub invariant-loop-k : goal.invariant-loop-k
 invariant-loop-k l =
-    (l.k ≤ size_lists) × (l.least ≡ least_of l.k) × (lists_ok_lem pool l.heads l.start l.end l.enabled l.lprev l.lnext size_lists 0 l.count ≡ lists_ok_lem pool l.heads l.start l.end l.enabled l.lprev l.lnext (size_lists - l.k) l.k l.left)
-
-abbrev pub decreases-loop-k : goal.decreases-loop-k
-decreases-loop-k l =
-    size_lists - l.k
+    let from = lists_ok_lem pool l.heads l.start l.end l.enabled l.lprev l.lnext in
+    (l.least ≡ least_of l.k) × (from size_lists 0 l.count ≡ from (size_lists - l.k) l.k l.left)

@@ -33,7 +33,8 @@ returns-then-not-follows c =
 stepped : (c : Else-not-follows) → let x = c.args in walks.follows pool x.enabled.now x.lprev.now c.loop-cur.before.0 c.loop-cur.cur.0 ≡ true
 stepped c = sym c.follows.ensures ∙ not-false c.follows.result (ap not c.if-not-follows.false)
 
-here : (c : Else-not-follows) → let x = c.args in (c.loop-cur.cur.0 < pool) × (get_or x.start.now c.loop-cur.cur.0 0 ≤ get_or x.end.now c.loop-cur.cur.0 0) × (get_or x.end.now c.loop-cur.cur.0 0 < top)
+here : (c : Else-not-follows) → let x = c.args in (c.loop-cur.cur.0 < pool)
+    × (get_or x.start.now c.loop-cur.cur.0 0 ≤ get_or x.end.now c.loop-cur.cur.0 0) × (get_or x.end.now c.loop-cur.cur.0 0 < top)
 here c =
     let w = follows-true _ _ _ _ _ (stepped c) in
     let g = c.requires _ w.0 w.1 in
@@ -46,7 +47,8 @@ size_at-size-requires c =
 pub returns-then-size-low : goal.returns-then-size-low
 returns-then-size-low c =
     λ k b.
-    list-sinks _ _ _ _ _ _ c.requires k _ _ b _ _ _ _ _ _ (c.loop-cur.invariant k b) _ c.loop-cur-test.true (stepped (goal.at.returns-then-size-low c).Else-not-follows) c.size_at-size.ensures c.if-size-low.true
+    list-sinks _ _ _ _ _ _ c.requires k _ _ b _ _ _ _ _ _ (c.loop-cur.invariant k b) _ c.loop-cur-test.true
+    (stepped (goal.at.returns-then-size-low c).Else-not-follows) c.size_at-size.ensures c.if-size-low.true
 
 pub bounds-lnext-n : goal.bounds-lnext-n
 bounds-lnext-n c =
@@ -63,8 +65,8 @@ loop-cur-smaller c =
 pub loop-cur-preserved : goal.loop-cur-preserved
 loop-cur-preserved c =
     λ k b.
-    list-goes _ _ _ _ _ _ c.requires k _ _ b _ _ _ _ _ _ (c.loop-cur.invariant k b) _ c.if-left-eq0.false c.loop-cur-test.true (stepped (goal.at.loop-cur-preserved c).Else-not-follows) c.size_at-size.ensures
-    c.if-size-low.false
+    list-goes _ _ _ _ _ _ c.requires k _ _ b _ _ _ _ _ _ (c.loop-cur.invariant k b) _ c.if-left-eq0.false c.loop-cur-test.true
+    (stepped (goal.at.loop-cur-preserved c).Else-not-follows) c.size_at-size.ensures c.if-size-low.false
 
 pub returns-then-most-low : goal.returns-then-most-low
 returns-then-most-low c =

@@ -1,7 +1,6 @@
 use Prim.Native.Nat.{ℕ}
 use Rattle.pool_state.specs.Shown.{pool}
 use Rattle.check_links.specs.Bounds.{Bounds}
-use Rattle.check_links.specs.Walks as walks
 use Rattle.check_links.proofs.Bounds.{ListAt}
 use Rattle.check_links.proofs.tally_list.Given as goal
 

@@ -1,13 +1,10 @@
-use Prim.Native.Nat.{◌-◌, ◌≤◌}
-use mathlib.Core.Bool.{true}
 use mathlib.Core.Path.{◌≡◌, sym, ap, ◌∙◌}
 use native.Mathlib.Omega.{arith}
 use native.Mathlib.Numerals.{add-one}
 use lib.Dec.{lit≤}
-use Rattle.linked_lists.specs.Links as links
 use Rattle.pool_state.specs.Shown.{pool}
 use Rattle.check_records.specs.Records.{used}
-use Rattle.check_records.specs.declared.Tally.TheVariants.{Of}
+use Rattle.std.specs.Prelude.{Some}
 use Rattle.check_records.proofs.Records.{all_none, all_more, count_none, count-used, count-unused, count-at-most, used-tested, unused-tested, records-broken, records-counted}
 use Rattle.check_records.proofs.tally_records.Goals as goal
 
@@ -49,4 +46,4 @@ pub returns : goal.returns
 returns c =
     let l = c.loop-i in
     let e : l.i ≡ pool = omega arith in
-    ap Of l.invariant.2 ∙ sym (records-counted _ _ _ _ _ _ _ _ l.i e l.invariant.1)
+    ap Some l.invariant.2 ∙ sym (records-counted _ _ _ _ _ _ _ _ l.i e l.invariant.1)

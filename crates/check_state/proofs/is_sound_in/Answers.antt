@@ -4,12 +4,8 @@ use Rattle.check_state.proofs.is_sound_in.Goals as goal
 
 pub returns-in_default : goal.returns-in_default
 returns-in_default c =
-    sym (sound-broken _ _ (sym c.tally_records-tally.ensures ∙ c.in_default.is))
+    sym (sound-broken _ _ (sym c.tally_records.ensures ∙ c.in_default.is))
 
 pub links_ok-requires : goal.links_ok-requires
 links_ok-requires c =
-    sym c.tally_records-tally.ensures ∙ c.in-Of.is
-
-pub returns : goal.returns
-returns c =
-    c.links_ok.ensures
+    sym c.tally_records.ensures ∙ c.in-Some.is

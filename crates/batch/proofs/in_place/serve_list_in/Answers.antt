@@ -53,10 +53,6 @@ pub bounds-answers-k : goal.bounds-answers-k
 bounds-answers-k c =
     let turn = c in omega (arith, more (goal.at.bounds-answers-k turn).In-loop-k, room (goal.at.bounds-answers-k turn).In-loop-k, turn.loop-k.invariant.0)
 
-pub overflow_add-k : goal.overflow_add-k
-overflow_add-k c =
-    let turn = c in let g = turn.well_formed.1 in omega (arith, more (goal.at.overflow_add-k turn).In-loop-k, room (goal.at.overflow_add-k turn).In-loop-k)
-
 pub loop-k-preserved : goal.loop-k-preserved
 loop-k-preserved c =
     let noted = c in

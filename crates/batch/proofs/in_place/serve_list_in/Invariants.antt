@@ -1,4 +1,3 @@
-use Prim.Native.Nat.{◌-◌}
 use mathlib.Core.Path.{◌≡◌}
 use lib.ListN.{length}
 use Rattle.pool_state.specs.Shown.{pool}
@@ -11,7 +10,3 @@ abbrev pub invariant-loop-k : goal.invariant-loop-k
 invariant-loop-k l =
     (length l.answers ≡ length l.initial.answers)
     × Going pool (account (arrays l.initial.total l.initial.first l.initial.heads l.initial.start l.initial.end l.initial.enabled l.initial.previous l.initial.next l.initial.lprev l.initial.lnext) l.initial.lowest) l.calls l.initial.answers l.k (account (arrays l.total l.first l.heads l.start l.end l.enabled l.previous l.next l.lprev l.lnext) l.lowest) l.answers
-
-abbrev pub decreases-loop-k : goal.decreases-loop-k
-decreases-loop-k l =
-    l.count - l.k
