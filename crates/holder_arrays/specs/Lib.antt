@@ -1,2 +1,2 @@
--- What the contracts cite of the register in arrays.
+-- What the contracts cite of the lent arrays.
 pub mod Arrays

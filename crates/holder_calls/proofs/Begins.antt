@@ -7,9 +7,10 @@ use lib.IntN.{pos}
 use lib.ListN.{length, length-drop}
 use borrow.Author.Tests.{eq-eqb, ne_eqb}
 use borrow.Rule.Slice.PartMut.{put_mid}
+use Rattle.std.specs.Prelude.{Err}
 use Rattle.account_state.specs.Account.{opened}
 use Rattle.calls.specs.Calls.{signed_of}
-use Rattle.calls.specs.declared.Answer.TheVariants.{InvalidEntry}
+use Rattle.calls.specs.declared.MemoryError.TheVariants.{InvalidEntry}
 use Rattle.image_parts.specs.Layout.{Layout, Figured, image_size_lem}
 use Rattle.image_writing.specs.Writing.{image_of}
 use Rattle.c_over.specs.CCalls as allocator
@@ -24,7 +25,7 @@ use Rattle.holder_image.proofs.Parts.{part_placed}
 use Rattle.holder_calls.specs.Calls.{new_over}
 
 module _ (f : Layout) (full : Figured f) (l : List ℕ) where
-  pub no_room : (length l ≡ whole_size f → ⊥) → returned (signed_of InvalidEntry) l ≡ new_over f l
+  pub no_room : (length l ≡ whole_size f → ⊥) → returned (signed_of (Err InvalidEntry)) l ≡ new_over f l
   unfolding new_over
   no_room h = rw (ne_eqb (length l) (whole_size f) h)
 

@@ -8,6 +8,7 @@ use lib.IntN.{ℤ, pos}
 use lib.Signed.{lt_z}
 use lib.ListN.{length, take, drop, length-drop, drop_of_length-le}
 use borrow.Rule.Slice.PartMut.{put_mid}
+use Rattle.std.specs.Prelude.{Ok, Err}
 use Rattle.linked_lists.proofs.Laws.{true≢false}
 use Rattle.bytes_be.specs.Numbers.{Bytes}
 use Rattle.linked_lists.specs.Links.{none}
@@ -17,10 +18,9 @@ use Rattle.pool_state.specs.State.{Holds}
 use Rattle.pool_state.specs.Sound.{book_of}
 use Rattle.pool_state.specs.declared.MemoryAllocator.{MemoryAllocator}
 use Rattle.pool_state.proofs.Book.{sound-holds}
-use Rattle.calls.specs.Calls.{address_of, number_of, signed_of, is_accepted}
+use Rattle.calls.specs.Calls.{Answer, address_of, number_of, signed_of, is_accepted}
 use Rattle.calls.specs.Answers.{Answers}
-use Rattle.calls.specs.declared.Answer.{Answer}
-use Rattle.calls.specs.declared.Answer.TheVariants.{Accepted, NoEntry, InvalidEntry, NoMemory, InvalidRequest}
+use Rattle.calls.specs.declared.MemoryError.TheVariants.{NoEntry, InvalidEntry, NoMemory, InvalidRequest}
 use Rattle.calls.proofs.Below.{step-below}
 use Rattle.account_state.specs.Account.{account, SoundAccount}
 use Rattle.account_state.specs.declared.Account.{Account}
@@ -63,11 +63,11 @@ same-call n c c' a i i' a' e d s = subst (λ (k : Call). Answered n k a i' a') e
 -- ---- what the fields leave in the image l, whose allocator they held
 
 not-refused : (k : Answer) → lt_z (signed_of k) (pos 0) ≡ false → is_accepted k ≡ true
-not-refused (Accepted a) n = refl
-not-refused NoEntry n = true≢false n
-not-refused InvalidEntry n = true≢false n
-not-refused NoMemory n = true≢false n
-not-refused InvalidRequest n = true≢false n
+not-refused (Ok a) n = refl
+not-refused (Err NoEntry) n = true≢false n
+not-refused (Err InvalidEntry) n = true≢false n
+not-refused (Err NoMemory) n = true≢false n
+not-refused (Err InvalidRequest) n = true≢false n
 
 module _ (f : Layout) (lawful : Lawful f) (l : List ℕ) (a : Account) (h : Held f (memory_in l) a) where
   pub fields-sound : SoundAccount f.records a

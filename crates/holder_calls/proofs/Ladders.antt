@@ -10,12 +10,13 @@ use lib.Dec.{T, ltb→lt}
 use lib.IntN.{ℤ, pos, negsuc}
 use lib.Signed.{lt_z}
 use borrow.Author.Tests.{ne_eqb}
+use Rattle.std.specs.Prelude.{Err}
 use Rattle.rules.specs.Rules as rules
 use Rattle.rules_engine.specs.Engine.{Engine}
 use Rattle.rules.specs.Rules.{any, meets, Free}
 use Rattle.linked_lists.proofs.Laws.{true≢false}
 use Rattle.calls.specs.Calls.{number_from, voucher_from, signed_of}
-use Rattle.calls.specs.declared.Answer.TheVariants.{InvalidEntry}
+use Rattle.calls.specs.declared.MemoryError.TheVariants.{InvalidEntry}
 use Rattle.image_parts.specs.Layout.{Layout}
 use Rattle.c_over.specs.CCalls as allocator
 use Rattle.c_over.specs.CCalls.{Returned, returned}
@@ -166,11 +167,11 @@ module _ (f : Layout) (l : List ℕ) (k : Holding (List ℕ)) (h : ℕ) (c : rul
 -- ---- an image that does not serve, and one that does
 
 module _ (f : Layout) (l : List ℕ) (c : Call) where
-  pub not-headed : headed f l ≡ false → returned (signed_of InvalidEntry) l ≡ call_over_lem f c l
+  pub not-headed : headed f l ≡ false → returned (signed_of (Err InvalidEntry)) l ≡ call_over_lem f c l
   unfolding call_over_lem over
   not-headed e = rw e
 
-  pub not_sound : headed f l ≡ true → sound_in_lem f (memory_in l) (register_in_lem l) ≡ false → returned (signed_of InvalidEntry) l ≡ call_over_lem f c l
+  pub not_sound : headed f l ≡ true → sound_in_lem f (memory_in l) (register_in_lem l) ≡ false → returned (signed_of (Err InvalidEntry)) l ≡ call_over_lem f c l
   unfolding call_over_lem over
   not_sound h e = rw (h, e)
 

@@ -10,21 +10,31 @@ use lib.Signed.{lt_z}
 use lib.ListN.{length, set, take, length-append}
 use lib.Seq.{take_at}
 use Rattle.rules.specs.Rules as rules
-use Rattle.rules.specs.Rules.{any, meets, Free}
+use lib.Dec.{T}
+use Rattle.rules.specs.Rules.{any, meets, frees, Free}
 use Rattle.linked_lists.proofs.Laws.{true≢false}
 use Rattle.calls.specs.Calls.{voucher_from}
 use Rattle.image_parts.specs.Layout.{Layout}
 use Rattle.c_over.specs.CCalls as allocator
 use Rattle.c_over.specs.CCalls.{returned}
 use Rattle.c_over.specs.Images.{images}
-use Rattle.holder_rules.specs.Register.{known, held, full, enter, yours, leave}
+use Rattle.holder_rules.specs.Register.{entries, known, held, full, enter, yours, leave}
 use Rattle.holder_rules.specs.Holders.{Answer, both, offer, give_back_lem, piece, take as takes, asked, By, step}
 use Rattle.holder_rules.specs.declared.Entry.{Entry}
 use Rattle.holder_image.specs.Layout.{memory_at}
-use Rattle.holder_image.specs.Bytes.{front_bytes_lem, bytes_of_lem, memory_in, register_in_lem, holding_in}
+use Rattle.linked_lists.proofs.Laws.{length-tab}
+use Rattle.holder_image.specs.Bytes.{front_bytes_lem, bytes_of_lem, memory_in, entry_at_lem, register_in_lem, holding_in}
 use Rattle.holder_image.proofs.Rounds.{length-bytes, memory-back, bytes-again}
-use Rattle.holder_calls.specs.Calls.{finished, Asks, Settles}
+use Rattle.holder_calls.specs.Calls.{finished, Serves, Asks, Settles}
 use Rattle.holder_calls.proofs.Ladders.{offered-is, given_is, taken_is, free-four, free-five, free_other, free-done, take-refused, take-full, take-entered, no-holder, by-holder}
+
+-- the register of an image has its entries
+pub register-sized : (l : List ℕ) (r : List Entry) → r ≡ register_in_lem l → length r ≡ entries
+unfolding register_in_lem
+register-sized l r e = ap length e ∙ length-tab entries 0 (entry_at_lem l)
+
+pub served-length : (f : Layout) (l : List ℕ) (r : List Entry) → Serves f l r → length r ≡ entries
+served-length f l r s = register-sized l r s.register
 
 front_length : (f : Layout) (r : List Entry) → length (front_bytes_lem f r) ≡ memory_at
 unfolding bytes_of_lem
@@ -37,6 +47,13 @@ same-settled f c w w' l i x l' e s = record { outcome = s.outcome ∙ e; answer 
 -- and of another for the answer
 pub same_answer : (f : Layout) (c : rules.Call) (w : Answer (List ℕ)) (l : List ℕ) (i i' x : ℤ) (l' : List ℕ) → i ≡ i' → Settles f c w l i x l' → Settles f c w l i' x l'
 same_answer f c w l i i' x l' e s = subst (λ (j : ℤ). Settles f c w l j x l') e s
+
+-- a call that frees nothing takes
+pub takes-settled : (f : Layout) (l : List ℕ) (i x : ℤ) (l' : List ℕ) (h : ℕ) (c : rules.Call) → T (not (frees c)) → Settles f c (takes (images f []) h c (holding_in l)) l i x l' → Settles f c (asked (images f []) h c (holding_in l)) l i x l'
+unfolding asked
+takes-settled f l i x l' h (rules.Free s z) t g = absurd t
+takes-settled f l i x l' h (rules.Allocate z o) t g = g
+takes-settled f l i x l' h (rules.Reserve s z o) t g = g
 
 pub unsettled : (f : Layout) (c : rules.Call) (w : Answer (List ℕ)) (l : List ℕ) (i x : ℤ) → lt_z x (pos 0) ≡ true → returned x l ≡ finished f w l → Settles f c w l i x l
 unsettled f c w l i x t g = record { outcome = rw t g; answer = λ n. true≢false (sym t ∙ n); memory = refl }

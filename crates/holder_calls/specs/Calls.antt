@@ -1,11 +1,11 @@
 -- What each C call of the register returns, and every byte of the image that it leaves, for every image and all numbers: request T-07's calls above the C calls of the
 -- allocator, whose image stands in this one. Assumes nothing.
-use Rattle.std.specs.Prelude.{ℕ, Bool, true, false, cond, ◌&&◌, List, [], ◌++◌, ◌≡◌, eqb, ℤ, pos, neg_ℤ, length, take}
+use Rattle.std.specs.Prelude.{ℕ, Bool, true, false, cond, ◌&&◌, List, [], ◌++◌, ◌≡◌, eqb, ℤ, pos, neg_ℤ, length, take, Err}
 use Rattle.std.specs.Int.Signed.{lt_z}
 use Rattle.rules.specs.Rules as rules
 use Rattle.bytes_be.specs.Numbers.{Bytes}
 use Rattle.calls.specs.Calls.{signed_of}
-use Rattle.calls.specs.declared.Answer.TheVariants.{InvalidEntry}
+use Rattle.calls.specs.declared.MemoryError.TheVariants.{InvalidEntry}
 use Rattle.image_parts.specs.Layout.{Layout}
 use Rattle.image.specs.Reading.{reading_of}
 use Rattle.c_over.specs.CCalls as allocator
@@ -36,7 +36,7 @@ finished f w l = returned (signed w.number w.address) (cond (eqb w.number 0) (by
 
 -- InvalidEntry, unless the image serves
 unfoldable pub over : Layout → Bool → Answer (List ℕ) → List ℕ → Returned
-over f b w l = cond b (finished f w l) (returned (signed_of InvalidEntry) l)
+over f b w l = cond b (finished f w l) (returned (signed_of (Err InvalidEntry)) l)
 
 -- a call of the board or of a holder: the allocator below answers as its C calls do. (What it begins with is not looked at.)
 unfoldable pub call_over_lem : Layout → Call → List ℕ → Returned
@@ -44,7 +44,7 @@ call_over_lem f c l = over f (serves f l) (step (images f []) c (holding_in l)) 
 
 -- nothing free and nothing held, over whatever is there, if it has the length
 unfoldable pub new_over : Layout → List ℕ → Returned
-new_over f l = cond (eqb (length l) (whole_size f)) (returned (pos 0) (bytes_of_lem f (nothing (images f (memory_in l)) entries))) (returned (signed_of InvalidEntry) l)
+new_over f l = cond (eqb (length l) (whole_size f)) (returned (pos 0) (bytes_of_lem f (nothing (images f (memory_in l)) entries))) (returned (signed_of (Err InvalidEntry)) l)
 
 -- ---- what the inner functions cite
 

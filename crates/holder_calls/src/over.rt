@@ -1,4 +1,4 @@
-// A call of the register on the state that an image holds, read once into the fields of the account and the arrays of the register.
+// A call of the register on the state that an image holds, read once into the fields of the account and the register.
 ghost use Rattle.std.specs.Prelude.{[], ◌≡◌};
 ghost use Rattle.pool_state.specs.Shown.{pool};
 ghost use Rattle.pool_state.specs.Lent.{was, is};
@@ -10,7 +10,6 @@ ghost use Rattle.c_over.specs.Images.{images};
 ghost use Rattle.holder_rules.specs.Holders.{below, step};
 ghost use Rattle.holder_serve.specs.Made.{requested};
 ghost use Rattle.holder_image.specs.Bytes.{holding_in};
-ghost use Rattle.holder_arrays.specs.Arrays.{register_of};
 ghost use Rattle.holder_calls.specs.Calls.{Serves, finished, call_over_lem};
 ghost use Rattle.holder_calls.specs.Fields.{AnsweredIn, HeldIn};
 
@@ -18,15 +17,17 @@ use crate::settle::settle;
 use account_state::noted;
 use call_serve::serve_in;
 use calls::{INVALID_ENTRY, signed_number};
-use holder_arrays::{is_register_sound_in, read_arrays};
+use holder_arrays::is_register_sound_in;
+use holder_entries::unused_entry;
+use holder_image::entries::fill_register;
 use holder_image::head::is_headed;
 use holder_image::layout::MEMORY;
-use holder_rules::ENTRIES;
+use holder_rules::{ENTRIES, Register};
 use holder_serve::HolderRequest;
 use image_reading::read_current;
 use image_writing::write_fields;
 use memory_allocator::Request;
-use pool_state::{LISTS, NONE, POOL, RecordIndex};
+use pool_state::{LISTS, POOL, RecordIndex, new};
 
 // The allocator's call in it.
 fn asked_below(request: HolderRequest) -> Request
@@ -63,12 +64,10 @@ fn answer_in(
     signed_number(answer)
 }
 
-// A call on the fields of the account and the arrays of the register whose image this is.
+// A call on the fields of the account and the register whose image this is.
 fn serve_held(
     image: &mut [u8],
-    holders: &[u64; ENTRIES],
-    starts: &[u64; ENTRIES],
-    lasts: &[u64; ENTRIES],
+    register: &Register,
     lowest: &mut u64,
     total: &mut u64,
     first: &mut u16,
@@ -83,14 +82,14 @@ fn serve_held(
     request: HolderRequest,
 ) -> i64
     requires held_in { HeldIn current image lowest total first heads start end enabled previous next lprev lnext }
-    requires serves { Serves current image.old (register_of holders.now starts.now lasts.now) }
+    requires serves { Serves current image.old register.now.entries }
     ensures { returned result (is image) ≡ finished current (step (images current []) (requested request) (holding_in (was image))) (was image) }
 {
     let call = asked_below(request);
     let answer = answer_in(
         lowest, total, first, heads, start, end, enabled, previous, next, lprev, lnext, call,
     );
-    let settled = settle(image, holders, starts, lasts, answer, request);
+    let settled = settle(image, register, answer, request);
     if settled < 0 {
         return settled;
     }
@@ -112,66 +111,53 @@ fn serve_held(
     settled
 }
 
-// Eleven locals and the register's three are the whole of it: what reads, checks, serves and writes is lent them.
+// Eleven locals and the register are the whole of it: what reads, checks, serves and writes is lent them.
 pub fn serve_over(image: &mut [u8], request: HolderRequest) -> i64
     ensures { returned result (is image) ≡ call_over_lem current (requested request) (was image) }
 {
     if is_headed(&image[..]) {
-        let mut lowest: u64 = 0;
-        let mut total: u64 = 0;
-        let mut first: u16 = NONE;
-        let mut heads = [NONE; LISTS];
-        let mut start = [0u64; POOL];
-        let mut end = [0u64; POOL];
-        let mut enabled = [false; POOL];
-        let mut previous = [NONE; POOL];
-        let mut next = [NONE; POOL];
-        let mut lprev = [NONE; POOL];
-        let mut lnext = [NONE; POOL];
+        let mut lowest = 0;
+        let mut ranges = new();
         let readable = read_current(
             &image[MEMORY..],
             &mut lowest,
-            &mut total,
-            &mut first,
-            &mut heads,
-            &mut start,
-            &mut end,
-            &mut enabled,
-            &mut previous,
-            &mut next,
-            &mut lprev,
-            &mut lnext,
+            &mut ranges.free_size,
+            &mut ranges.first_entry.0,
+            &mut ranges.free_list,
+            &mut ranges.start,
+            &mut ranges.end,
+            &mut ranges.enabled,
+            &mut ranges.previous,
+            &mut ranges.next,
+            &mut ranges.list_prev,
+            &mut ranges.list_next,
         );
         if readable {
-            let mut holders = [0u64; ENTRIES];
-            let mut starts = [0u64; ENTRIES];
-            let mut lasts = [0u64; ENTRIES];
-            read_arrays(&image[..], &mut holders, &mut starts, &mut lasts);
+            let mut register = Register {
+                entries: [unused_entry(); ENTRIES],
+            };
+            fill_register(&image[..], &mut register);
             if is_register_sound_in(
-                &holders,
-                &starts,
-                &lasts,
-                &start,
-                &end,
-                &next,
-                RecordIndex(first),
+                &register,
+                &ranges.start,
+                &ranges.end,
+                &ranges.next,
+                ranges.first_entry,
             ) {
                 return serve_held(
                     image,
-                    &holders,
-                    &starts,
-                    &lasts,
+                    &register,
                     &mut lowest,
-                    &mut total,
-                    &mut first,
-                    &mut heads,
-                    &mut start,
-                    &mut end,
-                    &mut enabled,
-                    &mut previous,
-                    &mut next,
-                    &mut lprev,
-                    &mut lnext,
+                    &mut ranges.free_size,
+                    &mut ranges.first_entry.0,
+                    &mut ranges.free_list,
+                    &mut ranges.start,
+                    &mut ranges.end,
+                    &mut ranges.enabled,
+                    &mut ranges.previous,
+                    &mut ranges.next,
+                    &mut ranges.list_prev,
+                    &mut ranges.list_next,
                     request,
                 );
             }

@@ -1,16 +1,16 @@
 -- The check of the register says yes exactly for request T-07's sentence. Assumes nothing.
-use mathlib.Core.Path.{◌≡◌, refl, sym, ap, subst}
-use mathlib.Core.Logic.{◌≢◌, ◌⊎◌, inl, inr}
+use mathlib.Core.Path.{◌≡◌, refl, sym, subst}
+use mathlib.Core.Logic.{◌⊎◌, inl, inr}
 use mathlib.Core.Bool.{Bool, true, false, cond, not, ◌&&◌}
 use mathlib.Core.List.{List, [], ◌∷◌}
-use Prim.Native.Nat.{ℕ, suc, ◌≤◌, ◌<◌}
+use Prim.Native.Nat.{suc}
 use native.Mathlib.Omega.{arith}
-use lib.Dec.{T, leb, ltb, eqb, leb→le, nleb→lt, le→leb, ltb→lt, lt→ltb, nltb→le, eqb→eq, eqb_refl, not_T}
+use lib.Dec.{T, leb, ltb, eqb, leb→le, nleb→lt, le→leb, ltb→lt, lt→ltb, nltb→le, eqb→eq, not_T}
 use Rattle.rules.specs.Rules.{top, Range, any, meets}
 use Rattle.rules.specs.Sound.{In, Pairwise}
-use Rattle.rules_laws.proofs.Lists.{if, and_l, and_r, and_i, T-no, T-or-not, T_true, any→, any←}
+use Rattle.rules_laws.proofs.Lists.{if, and_l, and_r, and_i, T-no, T-or-not, any→, any←}
 use Rattle.holder_rules.specs.Register.{holders, known, entry, blank, used, range_of, held}
-use Rattle.holder_rules.specs.Sound.{Clear, Held, Has, SoundEntries, SoundRegister, is_good_lem, avoids, is_apart, register_sound}
+use Rattle.holder_rules.specs.Sound.{Clear, Held, SoundRegister, is_good_lem, avoids, is_apart, register_sound}
 use Rattle.holder_rules.specs.declared.Entry.{Entry}
 
 -- ---- one entry

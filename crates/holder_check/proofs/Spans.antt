@@ -1,16 +1,15 @@
 -- The ranges of a listing, walked along its two slices; and that the check reads of free ranges only what meets them. Assumes nothing.
-use mathlib.Core.Path.{◌≡◌, refl, sym, ap, ◌∙◌}
-use mathlib.Core.Bool.{Bool, true, false, cond, not, ◌&&◌, ◌||◌}
+use mathlib.Core.Path.{◌≡◌, refl, ap, ◌∙◌}
+use mathlib.Core.Bool.{Bool, true, false, ◌||◌}
 use mathlib.Core.List.{List, [], ◌∷◌, ◌++◌, map}
-use Prim.Native.Nat.{ℕ, zero, suc, ◌+◌, ◌-◌, ◌≤◌, ◌<◌}
+use Prim.Native.Nat.{ℕ, suc, ◌+◌, ◌-◌, ◌≤◌, ◌<◌}
 use native.Mathlib.Omega.{arith}
 use native.Mathlib.Numerals.{add-one}
 use lib.ListN.{length, get_or, drop}
 use lib.Seq.{drop-cons}
 use Rattle.rules.specs.Rules.{Range, range, start_of, any, meets}
 use Rattle.pool_listing.specs.Listing.{last_of}
-use Rattle.holder_rules.specs.Register.{used}
-use Rattle.holder_rules.specs.Sound.{is_good_lem, is_apart, register_sound}
+use Rattle.holder_rules.specs.Sound.{is_apart, register_sound}
 use Rattle.holder_rules.specs.declared.Entry.{Entry}
 use Rattle.holder_check.specs.Spans.{spans}
 

@@ -1,2 +1,3 @@
 -- What the contracts of the check cite.
 pub mod Spans
+pub mod Tests

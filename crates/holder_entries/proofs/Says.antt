@@ -6,6 +6,7 @@ use mathlib.Core.List.{List, [], ◌∷◌}
 use Prim.Native.Nat.{ℕ, zero, suc, ◌+◌, ◌<◌}
 use native.Mathlib.Omega.{arith}
 use lib.Dec.{T, not_T}
+use Rattle.std.specs.Prelude.{Option, Some, None}
 use lib.ListN.{length, set}
 use Rattle.rules.specs.Rules.{Range, any}
 use Rattle.rules_laws.proofs.Lists.{if, and_i, T-no, T_true, T_false, any→, any←}
@@ -13,9 +14,8 @@ use Rattle.holder_rules.specs.Register.{used, range_of, held, full, replace, fre
 use Rattle.rules.specs.Sound.{In}
 use Rattle.holder_rules.specs.Sound.{Has}
 use Rattle.holder_rules.specs.declared.Entry.{Entry}
+use Rattle.holder_rules.specs.declared.EntryIndex.{EntryIndex}
 use Rattle.holder_entries.specs.Places.{first_from, unused_in, handed_in}
-use Rattle.holder_entries.specs.declared.Place.{Place}
-use Rattle.holder_entries.specs.declared.Place.TheVariants.{At, Nowhere}
 
 -- k is the number of the first that passes: to replace it is to store there
 record Hits (p : Entry → Bool) (l : List Entry) (k : ℕ) : Type 0 where
@@ -25,9 +25,9 @@ record Hits (p : Entry → Bool) (l : List Entry) (k : ℕ) : Type 0 where
   there : Has one l
   passes : T (p one)
 
-abbrev Says : (Entry → Bool) → ℕ → List Entry → Place → Type 0
-Says p i l (At j) = (k : ℕ) × (j.0 ≡ i + k) × Hits p l k
-Says p i l Nowhere = (e : Entry) → Has e l → T (not (p e))
+abbrev Says : (Entry → Bool) → ℕ → List Entry → Option EntryIndex → Type 0
+Says p i l (Some j) = (k : ℕ) × (j.0 ≡ i + k) × Hits p l k
+Says p i l None = (e : Entry) → Has e l → T (not (p e))
 
 says : (p : Entry → Bool) (i : ℕ) (l : List Entry) → Says p i l (first_from p i l)
 unfolding first_from replace
@@ -42,8 +42,8 @@ says p i (q ∷ l) = if (p q) (λ w. Says p i (q ∷ l) w)
     passed : T (not (p q)) → (e : Entry) → cond (p q) (e ∷ l) (q ∷ replace p e l) ≡ q ∷ replace p e l
     passed t e = if (p q) (λ m. m ≡ q ∷ replace p e l) (λ f. absurd (T-no (p q) t f)) (λ _. refl)
 
-    later : T (not (p q)) → (w : Place) → Says p (suc i) l w → Says p i (q ∷ l) w
-    later t (At j) s = (
+    later : T (not (p q)) → (w : Option EntryIndex) → Says p (suc i) l w → Says p i (q ∷ l) w
+    later t (Some j) s = (
       suc s.0,
       (let e = s.1 in omega arith),
       record {
@@ -54,7 +54,7 @@ says p i (q ∷ l) = if (p q) (λ w. Says p i (q ∷ l) w)
         passes = s.2.passes;
       },
     )
-    later t Nowhere s = λ e h. elim h [ inl d ↦ rw d t | inr k ↦ s e k ]
+    later t None s = λ e h. elim h [ inl d ↦ rw d t | inr k ↦ s e k ]
 
 -- ---- full, and yours
 
@@ -107,7 +107,7 @@ any-held← p (q ∷ l) e (inr h) t = go (used q) (any-held← p l e h t)
 unused-says : (l : List Entry) → Says free 0 l (unused_in l)
 unused-says l = says free 0 l
 
-pub unused-none : (l : List Entry) (w : Place) → w ≡ unused_in l → w ≡ Nowhere → full l ≡ true
+pub unused-none : (l : List Entry) (w : Option EntryIndex) → w ≡ unused_in l → w ≡ None → full l ≡ true
 unused-none l w e n = none-full l (subst (Says free 0 l) (sym e ∙ n) (unused-says l))
 
 -- stored at the place that was found
@@ -115,13 +115,13 @@ pub record Stores (p : Entry → Bool) (l : List Entry) (k : ℕ) : Type 0 where
   pub within : k < length l
   pub stored : (e : Entry) → set l k e ≡ replace p e l
 
-found_at : (p : Entry → Bool) (l : List Entry) (k : ℕ) → Says p 0 l (At (record { 0 = k })) → Hits p l k
+found_at : (p : Entry → Bool) (l : List Entry) (k : ℕ) → Says p 0 l (Some (record { 0 = k })) → Hits p l k
 found_at p l k s = subst (Hits p l) (let e = s.1 in omega arith) s.2
 
 stores : (p : Entry → Bool) (l : List Entry) (k : ℕ) → Hits p l k → Stores p l k
 stores p l k h = record { within = h.within; stored = λ e. sym (h.stored e) }
 
-module _ (l : List Entry) (w : Place) (k : ℕ) (e : w ≡ unused_in l) (a : w ≡ At (record { 0 = k })) where
+module _ (l : List Entry) (w : Option EntryIndex) (k : ℕ) (e : w ≡ unused_in l) (a : w ≡ Some (record { 0 = k })) where
   unused-hits : Hits free l k
   unused-hits = found_at free l k (subst (Says free 0 l) (sym e ∙ a) (unused-says l))
 
@@ -131,15 +131,15 @@ module _ (l : List Entry) (w : Place) (k : ℕ) (e : w ≡ unused_in l) (a : w �
   pub unused-not-full : full l ≡ false
   unused-not-full = some-not-full l unused-hits.one unused-hits.there unused-hits.passes
 
-module _ (h s z : ℕ) (l : List Entry) (w : Place) (e : w ≡ handed_in h s z l) where
+module _ (h s z : ℕ) (l : List Entry) (w : Option EntryIndex) (e : w ≡ handed_in h s z l) where
   handed-says : Says (hands h s z) 0 l w
   handed-says = subst (Says (hands h s z) 0 l) (sym e) (says (hands h s z) 0 l)
 
-  pub handed-none : w ≡ Nowhere → any (yours h s z) (held l) ≡ false
+  pub handed-none : w ≡ None → any (yours h s z) (held l) ≡ false
   handed-none n = T_false (any (yours h s z) (held l)) (not_T (any (yours h s z) (held l)) (λ t.
       let v = any-held→ (yours h s z) l t in T-no (hands h s z v.0) (subst (Says (hands h s z) 0 l) n handed-says v.0 v.1) v.2))
 
-  module _ (k : ℕ) (a : w ≡ At (record { 0 = k })) where
+  module _ (k : ℕ) (a : w ≡ Some (record { 0 = k })) where
     handed-hits : Hits (hands h s z) l k
     handed-hits = found_at (hands h s z) l k (subst (Says (hands h s z) 0 l) a handed-says)
 

@@ -1,71 +1,48 @@
--- A turn of a walk along the entries: what the rest of them answers, with the entry that stands first in it. Assumes nothing.
+-- What the searches of std answer along the entries. Assumes nothing.
 use mathlib.Core.Path.{◌≡◌, refl, sym, ap, ◌∙◌}
 use mathlib.Core.Bool.{Bool, true, false, cond, ◌&&◌, ◌||◌}
 use mathlib.Core.List.{List, [], ◌∷◌}
-use Prim.Native.Nat.{ℕ, suc, ◌+◌, ◌≤◌, ◌<◌}
+use Prim.Native.Nat.{ℕ, suc, ◌+◌}
 use native.Mathlib.Numerals.{add-one}
-use native.Mathlib.Omega.{arith}
 use lib.Dec.{ltb}
-use lib.ListN.{length, get_or, drop, drop_of_length-le}
-use lib.Seq.{drop-cons}
-use borrow.Author.Tests.{lt-ltb, le-ltb}
+use lib.ListN.{length}
+use Rattle.std.specs.Prelude.{Option, Some, None}
+use Rattle.std.specs.List.{position_from, position_or_len, list_any}
+use Rattle.std.specs.Option.{option_map, MatchOption, IsSomeAnd}
+use Rattle.std.proofs.lemmas.Iterator.Adapters.{position_from-zero}
 use Rattle.rules.specs.Rules.{Range, any}
-use Rattle.holder_rules.specs.Register.{blank, used, range_of, held}
+use Rattle.holder_rules.specs.Register.{used, range_of, held}
 use Rattle.holder_rules.specs.declared.Entry.{Entry}
+use Rattle.holder_rules.specs.declared.EntryIndex.{EntryIndex}
 use Rattle.holder_entries.specs.Places.{first_from}
-use Rattle.holder_entries.specs.declared.Place.TheVariants.{At, Nowhere}
 
--- ---- used or not
+abbrev index : ℕ → EntryIndex
+index i = record { 0 = i }
 
-pub is-used : (h : ℕ) → (h ≡ 0 → ⊥) → ltb 0 h ≡ true
-is-used h n = lt-ltb 0 h (omega arith)
-
-pub not-used : (h : ℕ) → h ≡ 0 → ltb 0 h ≡ false
-not-used h e = le-ltb 0 h (omega arith)
-
--- ---- the first that passes a test
-
-module _ (p : Entry → Bool) (l : List Entry) (i : ℕ) (h : i < length l) where
-  first-is : first_from p i (drop i l) ≡ cond (p (get_or l i blank)) (At (record { 0 = i })) (first_from p (suc i) (drop (suc i) l))
-  unfolding first_from
-  first-is = ap (first_from p i) (drop-cons l i blank h)
-
-  pub first-here : p (get_or l i blank) ≡ true → first_from p i (drop i l) ≡ At (record { 0 = i })
-  first-here e = first-is ∙ ap (λ (t : Bool). cond t (At (record { 0 = i })) (first_from p (suc i) (drop (suc i) l))) e
-
-  pub first-later : p (get_or l i blank) ≡ false → first_from p i (drop i l) ≡ first_from p (i + 1) (drop (i + 1) l)
-  first-later e =
-      first-is ∙ ap (λ (t : Bool). cond t (At (record { 0 = i })) (first_from p (suc i) (drop (suc i) l))) e
-      ∙ ap (λ (k : ℕ). first_from p k (drop k l)) (sym (add-one i))
-
-pub first-none : (p : Entry → Bool) (l : List Entry) (i : ℕ) → length l ≤ i → first_from p i (drop i l) ≡ Nowhere
+first-is : (p : Entry → Bool) (i : ℕ) (l : List Entry) → option_map index (position_from p i l) ≡ first_from p i l
 unfolding first_from
-first-none p l i h = ap (first_from p i) (drop_of_length-le l h)
+first-is p i [] = refl
+first-is p i (e ∷ l) = go (p e) ∙ ap (λ (w : Option EntryIndex). cond (p e) (Some (index i)) w) (ap (λ (k : ℕ). option_map index (position_from p k l)) (add-one i) ∙ first-is p (suc i) l)
+  where
+    go : (b : Bool) → option_map index (cond b (Some i) (position_from p (i + 1) l)) ≡ cond b (Some (index i)) (option_map index (position_from p (i + 1) l))
+    go true = refl
+    go false = refl
 
--- ---- a range that meets one of those held from here on
+mapped : (F : ℕ → EntryIndex → Type 0) → ((x : ℕ) (y : EntryIndex) → F x y → y ≡ index x) → (r : Option ℕ) (w : Option EntryIndex) → MatchOption r (w ≡ None) (λ x. IsSomeAnd w (F x)) → w ≡ option_map index r
+mapped F f None w h = h
+mapped F f (Some x) None h = absurd h
+mapped F f (Some x) (Some y) h = ap (λ (i : EntryIndex). Some i) (f x y h)
 
-module _ (p : Range → Bool) (l : List Entry) (i : ℕ) (h : i < length l) where
-  held-is : any p (held (drop i l)) ≡ any p (cond (used (get_or l i blank)) (range_of (get_or l i blank) ∷ held (drop (suc i) l)) (held (drop (suc i) l)))
-  unfolding held
-  held-is = ap (λ (m : List Entry). any p (held m)) (drop-cons l i blank h)
+-- what `position` answers, as an index
+pub first-found : (p : Entry → Bool) (l : List Entry) (r : Option ℕ) → r ≡ cond (ltb (position_or_len p l) (length l)) (Some (position_or_len p l)) None
+    → (F : ℕ → EntryIndex → Type 0) → ((x : ℕ) (y : EntryIndex) → F x y → y ≡ index x) → (w : Option EntryIndex) → MatchOption r (w ≡ None) (λ x. IsSomeAnd w (F x)) → w ≡ first_from p 0 l
+first-found p l r e F f w m = mapped F f r w m ∙ ap (option_map index) (e ∙ position_from-zero p l) ∙ first-is p 0 l
 
-  on : any p (held (drop (suc i) l)) ≡ any p (held (drop (i + 1) l))
-  on = ap (λ (k : ℕ). any p (held (drop k l))) (sym (add-one i))
-
-  any-is : any p (held (drop i l)) ≡ ((used (get_or l i blank) && p (range_of (get_or l i blank))) || any p (held (drop (suc i) l)))
-  unfolding any
-  any-is = held-is ∙ go (used (get_or l i blank))
-    where
-      go : (t : Bool) → any p (cond t (range_of (get_or l i blank) ∷ held (drop (suc i) l)) (held (drop (suc i) l))) ≡ ((t && p (range_of (get_or l i blank))) || any p (held (drop (suc i) l)))
-      go true = refl
-      go false = refl
-
-  pub any_here : (used (get_or l i blank) && p (range_of (get_or l i blank))) ≡ true → any p (held (drop i l)) ≡ true
-  any_here f = any-is ∙ ap (λ (t : Bool). t || any p (held (drop (suc i) l))) f
-
-  pub any-later : (used (get_or l i blank) && p (range_of (get_or l i blank))) ≡ false → any p (held (drop i l)) ≡ any p (held (drop (i + 1) l))
-  any-later f = any-is ∙ ap (λ (t : Bool). t || any p (held (drop (suc i) l))) f ∙ on
-
-pub any_none : (p : Range → Bool) (l : List Entry) (i : ℕ) → length l ≤ i → any p (held (drop i l)) ≡ false
-unfolding any held
-any_none p l i h = ap (λ (m : List Entry). any p (held m)) (drop_of_length-le l h)
+pub any_is : (p : Range → Bool) (l : List Entry) → list_any (λ e. used e && p (range_of e)) l ≡ any p (held l)
+unfolding held any
+any_is p [] = refl
+any_is p (e ∷ l) = ap (λ (b : Bool). (used e && p (range_of e)) || b) (any_is p l) ∙ go (used e)
+  where
+    go : (u : Bool) → ((u && p (range_of e)) || any p (held l)) ≡ any p (cond u (range_of e ∷ held l) (held l))
+    go true = refl
+    go false = refl

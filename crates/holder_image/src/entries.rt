@@ -35,12 +35,9 @@ fn write_entries(part: &mut [u8], register: Register)
     requires { length part.old ≡ entry_size * entries }
     ensures { is part ≡ entries_bytes register.entries }
 {
-    let mut i: usize = 0;
-    while i < ENTRIES {
-        let e = register.entries[i];
+    for i in 0..ENTRIES {
         let at = ENTRY * i;
-        write_entry(&mut part[at..at + ENTRY], e);
-        i += 1;
+        write_entry(&mut part[at..at + ENTRY], register.entries[i]);
     }
 }
 
@@ -77,18 +74,24 @@ pub fn entry_at(image: &[u8], i: usize) -> Entry
     read_entry(&image[at..at + ENTRY])
 }
 
+// The register of an image goes where it is to lie.
+pub fn fill_register(image: &[u8], register: &mut Register)
+    requires { (memory_at ≤ length image.now) × (length register.old.entries ≡ entries) }
+    ensures { (is register).entries ≡ register_in_lem image.now }
+{
+    for i in 0..ENTRIES {
+        register.entries[i] = entry_at(image, i);
+    }
+}
+
 // The register in an image.
 pub fn read_register(image: &[u8]) -> Register
     requires { memory_at ≤ length image.now }
     ensures { result.entries ≡ register_in_lem image.now }
 {
-    let unused = unused_entry();
-    let mut entries = [unused; ENTRIES];
-    let mut i: usize = 0;
-    while i < ENTRIES {
-        let e = entry_at(image, i);
-        entries[i] = e;
-        i += 1;
-    }
-    Register { entries: entries }
+    let mut register = Register {
+        entries: [unused_entry(); ENTRIES],
+    };
+    fill_register(image, &mut register);
+    register
 }

@@ -1,4 +1,5 @@
 -- Images and sound states with a register are one to one. Assumes nothing.
+use Rattle.std.specs.Prelude.{Ok, Err}
 use Prim.Native.Nat.{ℕ, ◌^◌, ◌≤◌, ◌<◌}
 use mathlib.Core.Bool.{Bool, true, false, cond, ◌&&◌}
 use mathlib.Core.List.{List}
@@ -24,9 +25,8 @@ use Rattle.image_parts.specs.Layout.{Layout, Figured, current, length_size}
 use Rattle.image_parts.proofs.Lawful.{small-pool, figured-current}
 use Rattle.image_writing.specs.Writing as allocator
 use Rattle.image_reading.specs.Reading as within
-use Rattle.image.specs.Writing.{Written, written}
+use Rattle.image.specs.Writing.{Written, written, invalid}
 use Rattle.image.specs.Reading as reads
-use Rattle.image.specs.declared.ImageAnswer.TheVariants.{Done, InvalidEntry}
 use Rattle.image.proofs.Rounds as memory
 use Rattle.holder_rules.specs.Register.{entries}
 use Rattle.holder_rules.specs.Holders as holding
@@ -117,11 +117,11 @@ module _ (f : Layout) (full : Figured f) (small : rest_of f < 256 ^ length_size)
           sized = all;
         }
 
-    pub unsound-refused : (SoundWith f.records s low → ⊥) → (l : List ℕ) → writing_of f s low l ≡ written InvalidEntry l
+    pub unsound-refused : (SoundWith f.records s low → ⊥) → (l : List ℕ) → writing_of f s low l ≡ written (Err invalid) l
     unfolding writing_of
     unsound-refused none l = go (is_sound_with_lem f.records s low) refl (eqb (length l) (whole_size f))
       where
-        go : (t : Bool) → is_sound_with_lem f.records s low ≡ t → (b : Bool) → cond {A = Written} (b && t) (written Done (image_of f s low)) (written InvalidEntry l) ≡ written InvalidEntry l
+        go : (t : Bool) → is_sound_with_lem f.records s low ≡ t → (b : Bool) → cond {A = Written} (b && t) (written (Ok tt) (image_of f s low)) (written (Err invalid) l) ≡ written (Err invalid) l
         go true e b = absurd (none (passes-sound e))
         go false e true = refl
         go false e false = refl
@@ -140,7 +140,7 @@ module _ (f : Layout) (full : Figured f) (small : rest_of f < 256 ^ length_size)
     unfolding is_sound_lem
     passes = rw (ranges-exact.sound-passes f.records few s.memory h.memory.ranges, T_true (register_sound (book_of f.records s.memory).chain r) (sound← (book_of f.records s.memory).chain r h.register))
 
-    pub sound-written : (l : List ℕ) → length l ≡ whole_size f → writing_of f s low l ≡ written Done (image_of f s low)
+    pub sound-written : (l : List ℕ) → length l ≡ whole_size f → writing_of f s low l ≡ written (Ok tt) (image_of f s low)
     sound-written l len =
         let low-passes = h.memory.low in
         let p : is_sound_with_lem f.records s low ≡ true = (λ i. passes i && low-passes i) in

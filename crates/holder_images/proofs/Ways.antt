@@ -1,4 +1,5 @@
 -- What the definitions give on each way through the code. Assumes nothing.
+use Rattle.std.specs.Prelude.{Ok, Err}
 use Prim.Native.Nat.{ℕ, ◌+◌, ◌-◌}
 use mathlib.Core.Bool.{Bool, true, false}
 use mathlib.Core.List.{List, ◌++◌}
@@ -13,9 +14,7 @@ use Rattle.account_state.specs.declared.Account.{Account}
 use Rattle.image_parts.specs.Layout.{Layout, current}
 use Rattle.image_writing.specs.Writing as allocator
 use Rattle.image.specs.Reading as reads
-use Rattle.image.specs.Writing.{number_of, written}
-use Rattle.image.specs.declared.ImageAnswer.{ImageAnswer}
-use Rattle.image.specs.declared.ImageAnswer.TheVariants.{Done, InvalidEntry}
+use Rattle.image.specs.Writing.{number_of, written, ImageAnswer, invalid}
 use Rattle.holder_rules.specs.Holders.{both}
 use Rattle.holder_rules.specs.States.{is_sound_lem}
 use Rattle.holder_rules.specs.declared.Entry.{Entry}
@@ -30,22 +29,22 @@ use Rattle.holder_images.proofs.Current.{current-read}
 -- ---- writing
 
 module _ (f : Layout) (s : HolderAllocator) (low : ℕ) (l : List ℕ) where
-  pub wrong-length : (length l ≡ whole_size f → ⊥) → written InvalidEntry l ≡ writing_of f s low l
+  pub wrong-length : (length l ≡ whole_size f → ⊥) → written (Err invalid) l ≡ writing_of f s low l
   unfolding writing_of
   wrong-length h = rw (ne_eqb (length l) (whole_size f) h)
 
   module _ (h : length l ≡ whole_size f) (t : Bool) (e : t ≡ is_sound_with_lem f.records s low) where
-    pub unsound : t ≡ false → written InvalidEntry l ≡ writing_of f s low l
+    pub unsound : t ≡ false → written (Err invalid) l ≡ writing_of f s low l
     unfolding writing_of
     unsound off = rw (eq-eqb (length l) (whole_size f) h, ← e, off)
 
-    pub done : (l' : List ℕ) → t ≡ true → l' ≡ image_of f s low → written Done l' ≡ writing_of f s low l
+    pub done : (l' : List ℕ) → t ≡ true → l' ≡ image_of f s low → written (Ok tt) l' ≡ writing_of f s low l
     unfolding writing_of
     done l' on is = rw (eq-eqb (length l) (whole_size f) h, ← e, on, is)
 
     -- the allocator's bytes were lent and written, and then the register's
     pub both-written : t ≡ true → (k : ℕ) → memory_at + k ≡ length l → (m : List ℕ) → m ≡ allocator.image_of f (account s.memory low)
-        → (l' : List ℕ) → l' ≡ front_bytes_lem f s.register.entries ++ memory_in (put_mid memory_at k l m) → written Done l' ≡ writing_of f s low l
+        → (l' : List ℕ) → l' ≡ front_bytes_lem f s.register.entries ++ memory_in (put_mid memory_at k l m) → written (Ok tt) l' ≡ writing_of f s low l
     unfolding image_of
     both-written on k room m is l' now = done l' on (part_placed f l l' m s.register.entries k h room now ∙ ap (λ (x : List ℕ). bytes_of_lem f (both x s.register.entries)) is)
 
@@ -83,8 +82,8 @@ module _ (l : List ℕ) (on : headed current l ≡ true) (k : ImageAnswer) (a : 
   number-told : number_of k ≡ (memory_read current l).number
   number-told = ap (λ (h : reads.Handed). h.number) memory-told
 
-  pub part-read : k ≡ Done → (r : List Entry) → r ≡ register_in_lem l → (h : Handed) → h ≡ judged current a r → h ≡ reading_of current l
+  pub part-read : k ≡ (Ok tt) → (r : List Entry) → r ≡ register_in_lem l → (h : Handed) → h ≡ judged current a r → h ≡ reading_of current l
   part-read is r er h eh = let m = memory-told in eh ∙ (λ i. judged current (m i).state (er i)) ∙ memory-read current l on (sym number-told ∙ ap number_of is)
 
-  pub part-refused : k ≡ InvalidEntry → (h : Handed) → h ≡ refused current → h ≡ reading_of current l
+  pub part-refused : k ≡ (Err invalid) → (h : Handed) → h ≡ refused current → h ≡ reading_of current l
   part-refused is h eh = eh ∙ no-memory current l on (λ e. let n = number-told in let v : number_of k ≡ 2 = ap number_of is in omega arith)

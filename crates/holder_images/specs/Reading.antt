@@ -1,12 +1,10 @@
 -- What reading a list of bytes answers: a state with its register, and the lowest figure beside it. Assumes nothing.
-use Rattle.std.specs.Prelude.{ℕ, Bool, cond, ◌&&◌, List, eqb}
+use Rattle.std.specs.Prelude.{ℕ, Bool, cond, ◌&&◌, List, eqb, Ok, Err}
 use Rattle.rules_lowest.specs.Lowest.{never}
 use Rattle.account_state.specs.declared.Account.{Account}
 use Rattle.image_parts.specs.Layout.{Layout}
 use Rattle.image.specs.Reading as allocator
-use Rattle.image.specs.Writing.{number_of}
-use Rattle.image.specs.declared.ImageAnswer.{ImageAnswer}
-use Rattle.image.specs.declared.ImageAnswer.TheVariants.{Done, InvalidEntry}
+use Rattle.image.specs.Writing.{number_of, ImageAnswer, invalid}
 use Rattle.holder_rules.specs.Holders.{both}
 use Rattle.holder_rules.specs.States.{with_register, new_of, is_sound_lem}
 use Rattle.holder_rules.specs.declared.Entry.{Entry}
@@ -23,10 +21,10 @@ abbrev pub handed : ImageAnswer → HolderAllocator → ℕ → Handed
 handed k s low = record { number = number_of k; state = s; lowest = low }
 
 abbrev pub accepted : HolderAllocator → ℕ → Handed
-accepted s low = handed Done s low
+accepted s low = handed (Ok tt) s low
 
 abbrev pub refused : Layout → Handed
-refused f = handed InvalidEntry (new_of f.records) never
+refused f = handed (Err invalid) (new_of f.records) never
 
 -- what reading the allocator's part answers, and the account that it hands over
 abbrev pub memory_read : Layout → List ℕ → allocator.Handed

@@ -1,12 +1,11 @@
 -- The images of sound states with a register, and what writing one answers. A state goes with the lowest figure beside its total, since the image has it. Assumes nothing.
-use Rattle.std.specs.Prelude.{ℕ, Bool, cond, ◌&&◌, List, ◌≡◌, eqb, length}
+use Rattle.std.specs.Prelude.{ℕ, Bool, cond, ◌&&◌, List, ◌≡◌, eqb, length, Ok, Err}
 use Rattle.rules_lowest.specs.Lowest.{low_sound}
 use Rattle.pool_state.specs.Sound.{book_of}
 use Rattle.account_state.specs.Account.{account, SoundAccount}
 use Rattle.image_parts.specs.Layout.{Layout}
 use Rattle.image_writing.specs.Writing as allocator
-use Rattle.image.specs.Writing.{Written, written}
-use Rattle.image.specs.declared.ImageAnswer.TheVariants.{Done, InvalidEntry}
+use Rattle.image.specs.Writing.{Written, written, invalid}
 use Rattle.holder_rules.specs.Register.{entries}
 use Rattle.holder_rules.specs.Holders.{both}
 use Rattle.holder_rules.specs.Sound.{SoundRegister}
@@ -37,4 +36,4 @@ pub record Image (f : Layout) (l : List ℕ) : Type 0 where
   pub bytes : image_of f state lowest ≡ l
 
 unfoldable pub writing_of : Layout → HolderAllocator → ℕ → List ℕ → Written
-writing_of f s low l = cond (eqb (length l) (whole_size f) && is_sound_with_lem f.records s low) (written Done (image_of f s low)) (written InvalidEntry l)
+writing_of f s low l = cond (eqb (length l) (whole_size f) && is_sound_with_lem f.records s low) (written (Ok tt) (image_of f s low)) (written (Err invalid) l)

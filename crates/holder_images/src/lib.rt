@@ -2,7 +2,7 @@
 #![tactic(auto)]
 
 use holder_rules::HolderAllocator;
-use image::ImageAnswer;
+use image::InvalidEntry;
 
 mod read;
 mod write;
@@ -13,7 +13,7 @@ pub use write::write_holders_image;
 // What reading gives: a refused read hands over the state of `new`, which was never offered anything.
 #[derive(Clone, Copy)]
 pub struct HolderReading {
-    pub answer: ImageAnswer,
+    pub answer: Result<(), InvalidEntry>,
     pub state: HolderAllocator,
     pub lowest: u64,
 }

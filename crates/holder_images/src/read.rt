@@ -10,16 +10,14 @@ use holder_image::entries::read_register;
 use holder_image::head::is_headed;
 use holder_image::layout::MEMORY;
 use holder_rules::{HolderAllocator, Register, new};
-use image::{ImageAnswer, read_image};
+use image::{InvalidEntry, read_image};
 
 fn refusal() -> HolderReading
     ensures { handed result.answer result.state result.lowest ≡ refused current }
 {
-    let answer = ImageAnswer::InvalidEntry;
-    let state = new();
     HolderReading {
-        answer: answer,
-        state: state,
+        answer: Err(InvalidEntry),
+        state: new(),
         lowest: NEVER,
     }
 }
@@ -28,16 +26,14 @@ fn refusal() -> HolderReading
 fn judge(account: Account, register: Register) -> HolderReading
     ensures { handed result.answer result.state result.lowest ≡ judged current account register.entries }
 {
-    let memory = account.ranges;
     let state = HolderAllocator {
-        memory: memory,
-        register: register,
+        memory: account.ranges,
+        register,
     };
     if is_sound(state) {
-        let answer = ImageAnswer::Done;
         return HolderReading {
-            answer: answer,
-            state: state,
+            answer: Ok(()),
+            state,
             lowest: account.lowest,
         };
     }
@@ -48,15 +44,12 @@ fn judge(account: Account, register: Register) -> HolderReading
 pub fn read_holders_image(image: &[u8]) -> HolderReading
     ensures { handed result.answer result.state result.lowest ≡ reading_of current image.now }
 {
-    if is_headed(image) {
-        let read = read_image(&image[MEMORY..]);
-        let account = read.state;
-        let answer = read.answer;
-        let register = read_register(image);
-        return match answer {
-            ImageAnswer::Done => judge(account, register),
-            ImageAnswer::InvalidEntry => refusal(),
-        };
+    if !is_headed(image) {
+        return refusal();
     }
-    refusal()
+    let read = read_image(&image[MEMORY..]);
+    match read.answer {
+        Ok(()) => judge(read.state, read_register(image)),
+        Err(InvalidEntry) => refusal(),
+    }
 }

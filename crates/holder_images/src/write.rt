@@ -10,36 +10,34 @@ use holder_check::is_sound;
 use holder_image::entries::write_front;
 use holder_image::layout::{HOLDERS_IMAGE, MEMORY};
 use holder_rules::HolderAllocator;
-use image::{ImageAnswer, write_account};
+use image::{InvalidEntry, write_account};
 
 // Whether a state is sound, and the figure may stand beside its total.
 fn is_sound_with(s: HolderAllocator, lowest: u64) -> bool
     ensures { result ≡ is_sound_with_lem pool s lowest }
 {
-    if is_sound(s) {
-        let memory = s.memory;
-        return is_low_sound(memory.free_size, lowest);
-    }
-    false
+    is_sound(s) && is_low_sound(s.memory.free_size, lowest)
 }
 
 // The image of a sound state with this lowest figure, over a slice of its length; else nothing changes.
-pub fn write_holders_image(s: HolderAllocator, lowest: u64, image: &mut [u8]) -> ImageAnswer
+pub fn write_holders_image(
+    s: HolderAllocator,
+    lowest: u64,
+    image: &mut [u8],
+) -> Result<(), InvalidEntry>
     ensures { written result image.new ≡ writing_of current s lowest image.old }
 {
     if image.len() != HOLDERS_IMAGE {
-        return ImageAnswer::InvalidEntry;
+        return Err(InvalidEntry);
     }
     if is_sound_with(s, lowest) {
-        let memory = s.memory;
-        let register = s.register;
         let account = Account {
-            ranges: memory,
-            lowest: lowest,
+            ranges: s.memory,
+            lowest,
         };
         write_account(account, &mut image[MEMORY..]);
-        write_front(image, register);
-        return ImageAnswer::Done;
+        write_front(image, s.register);
+        return Ok(());
     }
-    ImageAnswer::InvalidEntry
+    Err(InvalidEntry)
 }

@@ -7,14 +7,15 @@ use Prim.Native.Nat.{ℕ, suc, ◌+◌, ◌-◌, ◌≤◌, ◌<◌}
 use native.Mathlib.Omega.{arith}
 use lib.Dec.{T, leb, ltb, eqb, ltb→lt}
 use borrow.Author.Tests.{eq-eqb, ne_eqb, lt-ltb, le-ltb, le-leb, lt-leb}
+use Rattle.std.specs.Prelude.{Ok, Err}
 use Rattle.rules.specs.Rules.{top, size, sum}
 use Rattle.rules_laws.proofs.Lists.{and_l, T_true}
 use Rattle.core_accounts.specs.Accounts as accounts
 use Rattle.core_accounts.specs.Accounts.{counted, refused}
-use Rattle.calls.specs.Calls.{number_of}
-use Rattle.calls.specs.declared.Answer.{Answer}
-use Rattle.calls.specs.declared.Answer.TheVariants.{Accepted, NoEntry, InvalidEntry, NoMemory, InvalidRequest}
-use Rattle.calls.specs.declared.Counted.{Counted}
+use Rattle.calls.specs.Calls.{Answer, Counted, number_of}
+use Rattle.pool_state.specs.declared.Address.{Address}
+use Rattle.calls.specs.declared.MemoryError.{MemoryError}
+use Rattle.calls.specs.declared.MemoryError.TheVariants.{NoEntry, InvalidEntry, NoMemory, InvalidRequest}
 use Rattle.memory_allocator.specs.Names as allocator
 use Rattle.memory_allocator.specs.Names.{book_of}
 use Rattle.holder_rules.specs.Register.{holders, known, used, range_of}
@@ -43,28 +44,28 @@ pub belongs-used : (w : Whose) (e : Entry) → belongs w e ≡ true → T (used 
 belongs-used w e t = and_l (used e) (concerns w (range_of e)) (subst T (sym t) tt)
 
 module _ (n : ℕ) (s : HolderAllocator) (w : Whose) where
-  pub asked-all : is_sound_lem n s ≡ true → is_known_lem w ≡ true → Accepted (record { 0 = 0 }) ≡ asked_of n s w
+  pub asked-all : is_sound_lem n s ≡ true → is_known_lem w ≡ true → Ok (record { 0 = 0 }) ≡ asked_of n s w
   unfolding asked_of
   asked-all e k = rw (e, k)
 
-  pub asked-unknown : is_sound_lem n s ≡ true → is_known_lem w ≡ false → InvalidRequest ≡ asked_of n s w
+  pub asked-unknown : is_sound_lem n s ≡ true → is_known_lem w ≡ false → Err InvalidRequest ≡ asked_of n s w
   unfolding asked_of
   asked-unknown e k = rw (e, k)
 
-  pub asked-unsound : is_sound_lem n s ≡ false → InvalidEntry ≡ asked_of n s w
+  pub asked-unsound : is_sound_lem n s ≡ false → Err InvalidEntry ≡ asked_of n s w
   unfolding asked_of
   asked-unsound e = rw e
 
-  pub held-refused : (k : Answer) → k ≡ asked_of n s w → number_of k ≢ 0 → record { answer = k; value = 0 } ≡ held_of n s w
+  pub held-refused : (x : MemoryError) → Err x ≡ asked_of n s w → Err x ≡ held_of n s w
   unfolding held_of asked
-  held-refused k e d = rw (sym e, ne_eqb (number_of k) 0 d)
+  held-refused x e = rw (sym e)
 
-  pub accepted-is : (k : Answer) → k ≡ asked_of n s w → number_of k ≡ 0 → (k ≡ Accepted (record { 0 = 0 })) × (is_sound_lem n s ≡ true)
+  pub accepted-is : (k : Answer) → k ≡ asked_of n s w → number_of k ≡ 0 → (k ≡ Ok (record { 0 = 0 })) × (is_sound_lem n s ≡ true)
   unfolding asked_of
   accepted-is k e d = go (is_sound_lem n s) (is_known_lem w) refl (ap number_of (sym e) ∙ d) e
     where
-      go : (b c : Bool) → is_sound_lem n s ≡ b → number_of (cond b (cond c (Accepted (record { 0 = 0 })) InvalidRequest) InvalidEntry) ≡ 0
-          → k ≡ cond b (cond c (Accepted (record { 0 = 0 })) InvalidRequest) InvalidEntry → (k ≡ Accepted (record { 0 = 0 })) × (is_sound_lem n s ≡ true)
+      go : (b c : Bool) → is_sound_lem n s ≡ b → number_of (cond {A = Answer} b (cond c (Ok (record { 0 = 0 })) (Err InvalidRequest)) (Err InvalidEntry)) ≡ 0
+          → k ≡ cond b (cond c (Ok (record { 0 = 0 })) (Err InvalidRequest)) (Err InvalidEntry) → (k ≡ Ok (record { 0 = 0 })) × (is_sound_lem n s ≡ true)
       go true true q d e = (e, q)
       go true false q d e = absurd (let v : ⊥ = omega arith in v)
       go false c q d e = absurd (let v : ⊥ = omega arith in v)
@@ -77,9 +78,9 @@ module _ (n : ℕ) (s : HolderAllocator) (w : Whose) where
       go true q = subst T (sym q) tt
       go false q = absurd (subst T (sym q) tt)
 
-  pub held-counted : (k : Answer) (z : ℕ) → k ≡ asked_of n s w → number_of k ≡ 0 → z ≡ sum (found w s.register.entries) → record { answer = k; value = z } ≡ held_of n s w
+  pub held-counted : (a : Address) (z : ℕ) → Ok a ≡ asked_of n s w → z ≡ sum (found w s.register.entries) → Ok z ≡ held_of n s w
   unfolding held_of asked
-  held-counted k z e d q = rw (sym e, eq-eqb (number_of k) 0 d, (accepted-is k e d).0, q)
+  held-counted a z e q = rw (sym e, q)
 
 -- ---- the allocator's own, where the register is sound too
 

@@ -1,13 +1,11 @@
 -- The lists and the totals of a state with a register. n is the number of records. Assumes nothing.
-use Rattle.std.specs.Prelude.{ℕ, cond, List, ◌≡◌, eqb, length}
+use Rattle.std.specs.Prelude.{ℕ, cond, List, ◌≡◌, length, Ok, Err}
 use Rattle.rules.specs.Rules.{start_of, sum}
 use Rattle.pool_listing.specs.Listing.{last_of}
 use Rattle.core_accounts.specs.Accounts as accounts
 use Rattle.core_accounts.specs.Accounts.{counted, refused}
-use Rattle.calls.specs.declared.Counted.{Counted}
-use Rattle.calls.specs.Calls.{number_of}
-use Rattle.calls.specs.declared.Answer.{Answer}
-use Rattle.calls.specs.declared.Answer.TheVariants.{Accepted, InvalidEntry, InvalidRequest}
+use Rattle.calls.specs.Calls.{Answer, Counted}
+use Rattle.calls.specs.declared.MemoryError.TheVariants.{InvalidEntry, InvalidRequest}
 use Rattle.holder_rules.specs.States.{is_sound_lem}
 use Rattle.holder_rules.specs.declared.HolderAllocator.{HolderAllocator}
 use Rattle.holder_lists.specs.Whose.{is_known_lem, found}
@@ -15,10 +13,11 @@ use Rattle.holder_lists.specs.declared.Whose.{Whose}
 
 -- an unsound state is 2, a number that is no holder's 4
 unfoldable pub asked_of : ℕ → HolderAllocator → Whose → Answer
-asked_of n s w = cond (is_sound_lem n s) (cond (is_known_lem w) (Accepted (record { 0 = 0 })) InvalidRequest) InvalidEntry
+asked_of n s w = cond (is_sound_lem n s) (cond (is_known_lem w) (Ok (record { 0 = 0 })) (Err InvalidRequest)) (Err InvalidEntry)
 
 unfoldable pub asked : Answer → Counted → Counted
-asked k answer = cond (eqb (number_of k) 0) answer (refused k)
+asked (Ok a) answer = answer
+asked (Err e) answer = refused e
 
 -- the number of held bytes
 unfoldable pub held_of : ℕ → HolderAllocator → Whose → Counted

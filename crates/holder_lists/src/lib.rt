@@ -4,15 +4,15 @@
 ghost use Rattle.std.specs.Prelude.{cond, ◌≡◌, ◌≤◌, ◌<◌, T};
 ghost use Rattle.rules.specs.Rules.{top, size, sum};
 ghost use Rattle.memory_allocator.specs.Names.{pool};
-ghost use Rattle.holder_rules.specs.Register.{known, used, range_of};
+ghost use Rattle.holder_rules.specs.Register.{used, range_of};
 ghost use Rattle.holder_rules.specs.Sound.{SoundEntries};
 ghost use Rattle.holder_lists.specs.Whose.{is_known_lem, belongs, found};
 ghost use Rattle.holder_lists.specs.Accounts.{asked_of, held_of, total_of, FreeLists};
 
-use calls::{Answer, Counted, number_of};
+use calls::{Answer, Counted, MemoryError};
 use core_accounts::{listing as list_memory, total as total_memory};
 use holder_check::is_sound;
-use holder_rules::{ENTRIES, Entry, HOLDERS, Holder, HolderAllocator, Register};
+use holder_rules::{Entry, Holder, HolderAllocator, Register};
 use pool_state::Address;
 
 // Every holder, or one.
@@ -22,23 +22,13 @@ pub enum Whose {
     One(Holder),
 }
 
-// Whether the number is a holder's.
-fn is_holder(holder: Holder) -> bool
-    ensures { result ≡ known holder.0 }
-{
-    if holder.0 == 0 {
-        return false;
-    }
-    holder.0 <= HOLDERS
-}
-
 // Whether it is everybody, or one of the holders.
 fn is_known(whose: Whose) -> bool
     ensures { result ≡ is_known_lem whose }
 {
     match whose {
         Whose::All => true,
-        Whose::One(holder) => is_holder(holder),
+        Whose::One(holder) => holder.is_known(),
     }
 }
 
@@ -46,13 +36,11 @@ fn is_known(whose: Whose) -> bool
 pub fn belongs_to(e: Entry, whose: Whose) -> bool
     ensures { result ≡ belongs whose e }
 {
-    if e.holder.0 == 0 {
-        return false;
-    }
-    match whose {
-        Whose::All => true,
-        Whose::One(holder) => e.holder.0 == holder.0,
-    }
+    e.is_used()
+        && match whose {
+            Whose::All => true,
+            Whose::One(holder) => e.holder == holder,
+        }
 }
 
 // An unsound state, a number that is no holder's, or that the list can be made.
@@ -61,11 +49,11 @@ pub fn answer_asked(s: HolderAllocator, whose: Whose) -> Answer
 {
     if is_sound(s) {
         if is_known(whose) {
-            return Answer::Accepted(Address(0));
+            return Ok(Address(0));
         }
-        return Answer::InvalidRequest;
+        return Err(MemoryError::InvalidRequest);
     }
-    Answer::InvalidEntry
+    Err(MemoryError::InvalidEntry)
 }
 
 // The bytes of an entry, if it is one of these.
@@ -84,12 +72,9 @@ fn sum_held(register: Register, whose: Whose) -> u64
     requires { SoundEntries register.entries }
     ensures { result ≡ sum (found whose register.entries) }
 {
-    let mut bytes: u64 = 0;
-    let mut i: usize = 0;
-    while i < ENTRIES {
-        let e = register.entries[i];
-        bytes += size_held(e, whose);
-        i += 1;
+    let mut bytes = 0;
+    for e in &register.entries {
+        bytes += size_held(*e, whose);
     }
     bytes
 }
@@ -98,19 +83,8 @@ fn sum_held(register: Register, whose: Whose) -> u64
 pub fn held(s: HolderAllocator, whose: Whose) -> Counted
     ensures { result ≡ held_of pool s whose }
 {
-    let answer = answer_asked(s, whose);
-    if number_of(answer) != 0 {
-        return Counted {
-            answer: answer,
-            value: 0,
-        };
-    }
-    let register = s.register;
-    let bytes = sum_held(register, whose);
-    Counted {
-        answer: answer,
-        value: bytes,
-    }
+    answer_asked(s, whose)?;
+    Ok(sum_held(s.register, whose))
 }
 
 // The number of free bytes.
@@ -121,10 +95,7 @@ pub fn total(s: HolderAllocator) -> Counted
         let memory = s.memory;
         return total_memory(memory);
     }
-    Counted {
-        answer: Answer::InvalidEntry,
-        value: 0,
-    }
+    Err(MemoryError::InvalidEntry)
 }
 
 // The first and last byte of each free range, by address, into the first places of two lent slices; the value is their number.
@@ -135,8 +106,5 @@ pub fn listing(s: HolderAllocator, starts: &mut [u64], lasts: &mut [u64]) -> Cou
         let memory = s.memory;
         return list_memory(memory, starts, lasts);
     }
-    Counted {
-        answer: Answer::InvalidEntry,
-        value: 0,
-    }
+    Err(MemoryError::InvalidEntry)
 }

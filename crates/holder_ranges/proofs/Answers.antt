@@ -8,14 +8,16 @@ use lib.Dec.{T, leb, leb→le}
 use lib.ListN.{length}
 use borrow.Author.Tests.{eq-eqb, ne_eqb, le-leb, lt-leb}
 use Rattle.rules_laws.proofs.Lists.{and_l, and_r}
-use Rattle.core_accounts.specs.Accounts.{refused}
-use Rattle.calls.specs.Calls.{number_of}
-use Rattle.calls.specs.declared.Answer.{Answer}
-use Rattle.calls.specs.declared.Answer.TheVariants.{InvalidRequest}
+use Rattle.std.specs.Prelude.{Ok, Err}
+use Rattle.pool_state.specs.declared.Address.{Address}
+use Rattle.core_accounts.specs.Accounts.{counted, refused}
+use Rattle.calls.specs.Calls.{Answer, number_of}
+use Rattle.calls.specs.declared.MemoryError.{MemoryError}
+use Rattle.calls.specs.declared.MemoryError.TheVariants.{InvalidRequest}
+use Rattle.calls.proofs.Numbers.{refusal-nonzero}
 use Rattle.holder_rules.specs.declared.HolderAllocator.{HolderAllocator}
 use Rattle.holder_lists.specs.Accounts.{asked_of, asked}
 use Rattle.holder_lists.specs.declared.Whose.{Whose}
-use Rattle.holder_lists.proofs.Answers.{accepted-is}
 use Rattle.holder_ranges.specs.Holdings.{has_room_lem, ranges_in, room_in, listing_of, shown_of, Room, Wrote, Lists}
 
 -- ---- the room in three slices
@@ -43,25 +45,25 @@ room→ k hs ss ls e =
 -- ---- the answer
 
 module _ (n : ℕ) (s : HolderAllocator) (w : Whose) (hs ss ls : List ℕ) (k : Answer) (e : k ≡ asked_of n s w) where
-  pub not_listed : number_of k ≢ 0 → Lists n s w hs ss ls (record { answer = k; value = 0 }) hs ss ls
+  pub not_listed : (x : MemoryError) → k ≡ Err x → Lists n s w hs ss ls (refused x) hs ss ls
   unfolding listing_of shown_of asked
-  not_listed d =
-      let f = ne_eqb (number_of k) 0 d in
-      record { answer = rw (sym e, f); holders-now = rw (sym e, f); starts-now = rw (sym e, f); lasts_now = rw (sym e, f) }
+  not_listed x i =
+      let f = ne_eqb (number_of k) 0 (λ q. refusal-nonzero Address x (sym (ap number_of i) ∙ q)) in
+      record { answer = rw (sym e, i); holders-now = rw (sym e, f); starts-now = rw (sym e, f); lasts_now = rw (sym e, f) }
 
-  module _ (d : number_of k ≡ 0) where
+  module _ (a : Address) (i : k ≡ Ok a) where
     pub too_short : room_in s w hs ss ls ≡ false → Lists n s w hs ss ls (refused InvalidRequest) hs ss ls
     unfolding listing_of shown_of asked
     too_short r =
-        let f = eq-eqb (number_of k) 0 d in
-        record { answer = rw (r, sym e, f); holders-now = rw (r, sym e, f); starts-now = rw (r, sym e, f); lasts_now = rw (r, sym e, f) }
+        let f = eq-eqb (number_of k) 0 (ap number_of i) in
+        record { answer = rw (r, sym e, i); holders-now = rw (r, sym e, f); starts-now = rw (r, sym e, f); lasts_now = rw (r, sym e, f) }
 
-    pub listed : room_in s w hs ss ls ≡ true → (c : ℕ) → c ≡ length (ranges_in s w) → (hs' ss' ls' : List ℕ) → Wrote (ranges_in s w) hs ss ls hs' ss' ls' → Lists n s w hs ss ls (record { answer = k; value = c }) hs' ss' ls'
+    pub listed : room_in s w hs ss ls ≡ true → (c : ℕ) → c ≡ length (ranges_in s w) → (hs' ss' ls' : List ℕ) → Wrote (ranges_in s w) hs ss ls hs' ss' ls' → Lists n s w hs ss ls (counted c) hs' ss' ls'
     unfolding listing_of shown_of asked
     listed r c q hs' ss' ls' o =
-        let f = eq-eqb (number_of k) 0 d in
+        let f = eq-eqb (number_of k) 0 (ap number_of i) in
         record {
-          answer = rw (r, sym e, f, (accepted-is n s w k e d).0, q);
+          answer = rw (r, sym e, i, q);
           holders-now = rw (r, sym e, f) o.holders-now;
           starts-now = rw (r, sym e, f) o.starts-now;
           lasts_now = rw (r, sym e, f) o.lasts_now;

@@ -3,6 +3,7 @@
 
 ghost use Rattle.std.specs.Prelude.{◌≡◌};
 ghost use Rattle.memory_allocator.specs.Names.{pool};
+ghost use Rattle.holder_rules.specs.Register.{known, used};
 ghost use Rattle.holder_rules.specs.States.{new_of};
 
 use pool_state::{Address, MemoryAllocator, new as new_memory};
@@ -13,10 +14,19 @@ pub const ENTRIES: usize = 64;
 pub const HOLDERS: u64 = 16;
 
 // The number of a holder; 0 stands for nobody, in an entry that is not used.
-#[derive(Clone, Copy)]
+#[derive(Clone, Copy, PartialEq, Eq)]
 pub struct Holder(pub u64);
 
-#[derive(Clone, Copy)]
+impl Holder {
+    // Whether the number is a holder's.
+    pub fn is_known(self) -> bool
+        ensures { result ≡ known self.0 }
+    {
+        1 <= self.0 && self.0 <= HOLDERS
+    }
+}
+
+#[derive(Clone, Copy, PartialEq, Eq)]
 pub struct EntryIndex(pub usize);
 
 // A held range: who holds it, its first byte and its last.
@@ -25,6 +35,15 @@ pub struct Entry {
     pub holder: Holder,
     pub start: Address,
     pub last: Address,
+}
+
+impl Entry {
+    // Whether somebody holds it.
+    pub fn is_used(self) -> bool
+        ensures { result ≡ used self }
+    {
+        self.holder.0 != 0
+    }
 }
 
 #[derive(Clone, Copy)]

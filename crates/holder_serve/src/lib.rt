@@ -3,7 +3,7 @@
 
 mod pieces;
 
-ghost use Rattle.std.specs.Prelude.{true, not, ◌≡◌, T};
+ghost use Rattle.std.specs.Prelude.{true, not, ◌≡◌, T, eqb};
 ghost use Rattle.rules.specs.Rules.{frees};
 ghost use Rattle.memory_allocator.specs.Names as allocator;
 ghost use Rattle.memory_allocator.specs.Names.{pool, call_of};
@@ -11,25 +11,33 @@ ghost use Rattle.memory_allocator.specs.States.{states};
 ghost use Rattle.holder_rules.specs.Holders.{both, accepted, unless_refused, offer, give_back_lem, take, step, By};
 ghost use Rattle.holder_rules.specs.States.{holding_of, is_sound_lem};
 ghost use Rattle.holder_serve.specs.Made.{requested, held, made};
+ghost use Rattle.holder_serve.specs.declared.HolderError.TheVariants.{Memory};
 
-use calls::{address_of, number_of};
 use core_serve::serve_sound;
 use holder_check::is_sound;
-use holder_entries::{Place, find_handed, find_unused, meets_held, unused_entry, with_entry};
-use holder_rules::{HOLDERS, Holder, HolderAllocator, Register};
-use memory_allocator::{Answer, Outcome, Request};
+use holder_entries::{find_handed, find_unused, meets_held, unused_entry, with_entry};
+use holder_rules::{Holder, HolderAllocator, Register};
+use memory_allocator::{Answer, MemoryError, Outcome, Request};
 pub use pieces::piece_of;
 use pool_state::Address;
 
-const INVALID_REQUEST: u64 = 4;
-
-// The allocator's answer; not yours; the register is full.
-#[derive(Clone, Copy)]
-pub enum HolderAnswer {
-    Memory(Answer),
+// The allocator's refusal; not yours; the register is full.
+#[derive(Clone, Copy, Debug, PartialEq, Eq)]
+pub enum HolderError {
+    Memory(MemoryError),
     NotYours,
     RegisterFull,
 }
+
+impl From<MemoryError> for HolderError {
+    ghost from_gives = { λ e k. k ≡ Memory e };
+
+    fn from(error: MemoryError) -> HolderError {
+        HolderError::Memory(error)
+    }
+}
+
+pub type HolderAnswer = Result<Address, HolderError>;
 
 #[derive(Clone, Copy)]
 pub struct HolderOutcome {
@@ -48,21 +56,26 @@ pub enum HolderRequest {
 fn follow(s: HolderAllocator, served: Outcome, register: Register) -> HolderOutcome
     ensures { result ≡ held (unless_refused (allocator.number_of served.answer) (holding_of s) (accepted (allocator.address_of served.answer) (both served.state register.entries))) }
 {
-    let answer = served.answer;
-    if number_of(answer) != 0 {
-        return HolderOutcome {
-            answer: HolderAnswer::Memory(answer),
+    match served.answer {
+        Ok(address) => HolderOutcome {
+            answer: Ok(address),
+            state: HolderAllocator {
+                memory: served.state,
+                register: register,
+            },
+        },
+        Err(error) => HolderOutcome {
+            answer: Err(error.into()),
             state: s,
-        };
-    }
-    let memory = served.state;
-    HolderOutcome {
-        answer: HolderAnswer::Memory(answer),
-        state: HolderAllocator {
-            memory: memory,
-            register: register,
         },
     }
+}
+
+// A request that no register could make good is refused before the register is looked at.
+fn is_invalid_request(answer: Answer) -> bool
+    ensures { result ≡ eqb (allocator.number_of answer) 4 }
+{
+    matches!(answer, Err(MemoryError::InvalidRequest))
 }
 
 // The board offers bytes.
@@ -73,16 +86,15 @@ fn offer_sound(s: HolderAllocator, address: Address, size: u64) -> HolderOutcome
     let memory = s.memory;
     let register = s.register;
     let served = serve_sound(memory, Request::Free(address, size));
-    let answer = served.answer;
-    if number_of(answer) == INVALID_REQUEST {
+    if is_invalid_request(served.answer) {
         return HolderOutcome {
-            answer: HolderAnswer::Memory(answer),
+            answer: Err(HolderError::Memory(MemoryError::InvalidRequest)),
             state: s,
         };
     }
-    if meets_held(register, 0, address, size) {
+    if meets_held(&register, 0, address, size) {
         return HolderOutcome {
-            answer: HolderAnswer::NotYours,
+            answer: Err(HolderError::NotYours),
             state: s,
         };
     }
@@ -97,16 +109,15 @@ fn give_back(s: HolderAllocator, holder: Holder, address: Address, size: u64) ->
     let memory = s.memory;
     let register = s.register;
     let served = serve_sound(memory, Request::Free(address, size));
-    let answer = served.answer;
-    if number_of(answer) == INVALID_REQUEST {
+    if is_invalid_request(served.answer) {
         return HolderOutcome {
-            answer: HolderAnswer::Memory(answer),
+            answer: Err(HolderError::Memory(MemoryError::InvalidRequest)),
             state: s,
         };
     }
-    let Place::At(i) = find_handed(register, holder, address, size) else {
+    let Some(i) = find_handed(&register, holder, address, size) else {
         return HolderOutcome {
-            answer: HolderAnswer::NotYours,
+            answer: Err(HolderError::NotYours),
             state: s,
         };
     };
@@ -122,20 +133,22 @@ fn take_sound(s: HolderAllocator, holder: Holder, request: Request) -> HolderOut
     let memory = s.memory;
     let register = s.register;
     let served = serve_sound(memory, request);
-    let answer = served.answer;
-    if number_of(answer) != 0 {
+    let address = match served.answer {
+        Ok(address) => address,
+        Err(error) => {
+            return HolderOutcome {
+                answer: Err(error.into()),
+                state: s,
+            };
+        }
+    };
+    let Some(i) = find_unused(&register) else {
         return HolderOutcome {
-            answer: HolderAnswer::Memory(answer),
-            state: s,
-        };
-    }
-    let Place::At(i) = find_unused(register) else {
-        return HolderOutcome {
-            answer: HolderAnswer::RegisterFull,
+            answer: Err(HolderError::RegisterFull),
             state: s,
         };
     };
-    let entry = piece_of(holder, request, address_of(answer));
+    let entry = piece_of(holder, request, address.0);
     let next = with_entry(register, i, entry);
     follow(s, served, next)
 }
@@ -145,26 +158,15 @@ fn serve_by(s: HolderAllocator, holder: Holder, request: Request) -> HolderOutco
     requires { is_sound_lem pool s ≡ true }
     ensures { result ≡ held (step (states pool) (By holder.0 (call_of request)) (holding_of s)) }
 {
-    if holder.0 == 0 {
+    if !holder.is_known() {
         return HolderOutcome {
-            answer: HolderAnswer::Memory(Answer::InvalidRequest),
-            state: s,
-        };
-    }
-    if HOLDERS < holder.0 {
-        return HolderOutcome {
-            answer: HolderAnswer::Memory(Answer::InvalidRequest),
+            answer: Err(HolderError::Memory(MemoryError::InvalidRequest)),
             state: s,
         };
     }
     match request {
         Request::Free(address, size) => give_back(s, holder, address, size),
-        Request::Allocate(size, order) => take_sound(s, holder, Request::Allocate(size, order)),
-        Request::Reserve(address, size, order) => take_sound(
-            s,
-            holder,
-            Request::Reserve(address, size, order),
-        ),
+        Request::Allocate(..) | Request::Reserve(..) => take_sound(s, holder, request),
     }
 }
 
@@ -187,7 +189,7 @@ pub fn serve_holder(s: HolderAllocator, request: HolderRequest) -> HolderOutcome
         return serve_holder_sound(s, request);
     }
     HolderOutcome {
-        answer: HolderAnswer::Memory(Answer::InvalidEntry),
+        answer: Err(HolderError::Memory(MemoryError::InvalidEntry)),
         state: s,
     }
 }

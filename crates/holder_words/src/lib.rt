@@ -33,11 +33,8 @@ pub fn register_in(words: &[u64; WORDS]) -> Register
             last: Address(0),
         }; ENTRIES],
     };
-    let mut i: usize = 0;
-    while i < ENTRIES {
-        let e = entry_at(words, i);
-        register.entries[i] = e;
-        i += 1;
+    for i in 0..ENTRIES {
+        register.entries[i] = entry_at(words, i);
     }
     register
 }
@@ -47,14 +44,12 @@ pub fn words_of(register: Register) -> [u64; WORDS]
     ensures { entries_in result entries ≡ register.entries }
 {
     let mut words = [0; WORDS];
-    let mut i: usize = 0;
-    while i < ENTRIES {
+    for i in 0..ENTRIES {
         let e = register.entries[i];
         let at = 3 * i;
         words[at] = e.holder.0;
         words[at + 1] = e.start.0;
         words[at + 2] = e.last.0;
-        i += 1;
     }
     words
 }

@@ -11,7 +11,7 @@ pub use holder_check::is_sound;
 pub use holder_lists::{Whose, held, listing, total};
 pub use holder_ranges::holdings;
 pub use holder_rules::{ENTRIES, Entry, HOLDERS, Holder, HolderAllocator, Register, new};
-pub use holder_serve::{HolderAnswer, HolderOutcome, HolderRequest, serve_holder};
+pub use holder_serve::{HolderAnswer, HolderError, HolderOutcome, HolderRequest, serve_holder};
 use pool_state::Address;
 
 // The board offers `size` bytes from `address`: they become free.

@@ -1,47 +1,38 @@
 use native.Mathlib.Omega.{arith}
 use mathlib.Core.Path.{refl, sym, ◌∙◌}
-use mathlib.Core.Bool.{true, false}
 use lib.ListN.{drop}
-use Rattle.holder_check.specs.Spans.{spans}
-use Rattle.holder_check.proofs.Entries.{good-bounds, not_good, not-used-sound, meets-free, last-test}
+use Rattle.holder_check.proofs.Entries.{good-bounds, unused-sound, meets-free, last-test}
 use Rattle.holder_check.proofs.is_entry_sound.Goals as goal
 
-pub returns-then-e-eq0 : goal.returns-then-e-eq0
-returns-then-e-eq0 c =
-    let g = c in let x = g.args in
-    not-used-sound (spans x.count x.starts.now x.lasts.now) x.e (drop x.next x.register.entries) (sym g.is_good.ensures ∙ g.if-is_good.true) c.if-e-eq0.true
+pub returns-then-not-is_used : goal.returns-then-not-is_used
+returns-then-not-is_used g c =
+    let x = c.args in
+    λ free t. unused-sound free x.e (drop x.next x.register.now.entries) (sym c.is_good.ensures ∙ c.if-not-is_good.false) (sym c.is_used.ensures ∙ c.if-not-is_used.true)
 
-pub meets_listed-requires : goal.meets_listed-requires
-meets_listed-requires c =
-    c.requires
+pub meets_free-requires : goal.meets_free-requires
+meets_free-requires g c =
+    let b = good-bounds c.args.e (sym c.is_used.ensures ∙ c.if-not-is_used.false) (sym c.is_good.ensures ∙ c.if-not-is_good.false) in
+    c.requires _ _ b.0 b.1
 
-pub returns-then-meets_listed : goal.returns-then-meets_listed
-returns-then-meets_listed c =
-    let u = c in let g = u in let x = g.args in
-    meets-free (spans x.count x.starts.now x.lasts.now) x.e (drop x.next x.register.entries) (sym g.is_good.ensures ∙ g.if-is_good.true) u.if-e-eq0.false (sym c.meets_listed.ensures ∙ c.if-meets_listed.true)
+pub returns-then-meets_free : goal.returns-then-meets_free
+returns-then-meets_free g c =
+    let x = c.args in
+    let good = sym c.is_good.ensures ∙ c.if-not-is_good.false in let used = sym c.is_used.ensures ∙ c.if-not-is_used.false in
+    let b = good-bounds x.e used good in
+    λ free t. meets-free free x.e (drop x.next x.register.now.entries) good used (sym (t _ _ _ b.0 b.1 c.meets_free.ensures) ∙ c.if-meets_free.true)
 
 pub overflow_sub-size : goal.overflow_sub-size
-overflow_sub-size c =
-    let u = c in let g = u in let x = g.args in
-    (good-bounds x.e u.if-e-eq0.false (sym g.is_good.ensures ∙ g.if-is_good.true)).0
+overflow_sub-size g c =
+    (good-bounds c.args.e (sym c.is_used.ensures ∙ c.if-not-is_used.false) (sym c.is_good.ensures ∙ c.if-not-is_good.false)).0
 
 pub overflow_add-size : goal.overflow_add-size
-overflow_add-size c =
-    let u = c in let g = u in let x = g.args in
-    let l = good-bounds x.e u.if-e-eq0.false (sym g.is_good.ensures ∙ g.if-is_good.true) in
+overflow_add-size g c =
+    let b = good-bounds c.args.e (sym c.is_used.ensures ∙ c.if-not-is_used.false) (sym c.is_good.ensures ∙ c.if-not-is_good.false) in
     omega arith
 
-pub returns-then-meets_held : goal.returns-then-meets_held
-returns-then-meets_held c =
-    let m = c in let u = m in let g = u in let x = g.args in
-    last-test (spans x.count x.starts.now x.lasts.now) x.e (drop x.next x.register.entries) (sym g.is_good.ensures ∙ g.if-is_good.true) u.if-e-eq0.false (sym m.meets_listed.ensures ∙ m.if-meets_listed.false) _ refl true (sym c.meets_held.ensures ∙ c.if-meets_held.true)
-
-pub returns-then-is_good : goal.returns-then-is_good
-returns-then-is_good c =
-    let m = c in let u = m in let g = u in let x = g.args in
-    last-test (spans x.count x.starts.now x.lasts.now) x.e (drop x.next x.register.entries) (sym g.is_good.ensures ∙ g.if-is_good.true) u.if-e-eq0.false (sym m.meets_listed.ensures ∙ m.if-meets_listed.false) _ refl false (sym c.meets_held.ensures ∙ c.if-meets_held.false)
-
 pub returns : goal.returns
-returns c =
+returns g c =
     let x = c.args in
-    not_good (spans x.count x.starts.now x.lasts.now) x.e (drop x.next x.register.entries) (sym c.is_good.ensures ∙ c.if-is_good.false)
+    let good = sym c.is_good.ensures ∙ c.if-not-is_good.false in let used = sym c.is_used.ensures ∙ c.if-not-is_used.false in
+    let b = good-bounds x.e used good in
+    λ free t. last-test free x.e (drop x.next x.register.now.entries) good used (sym (t _ _ _ b.0 b.1 c.meets_free.ensures) ∙ c.if-meets_free.false) _ refl _ c.meets_held.ensures

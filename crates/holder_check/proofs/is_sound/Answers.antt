@@ -1,22 +1,25 @@
-use mathlib.Core.Path.{refl, sym, ◌∙◌}
+use mathlib.Core.Path.{refl, sym, ap, ◌∙◌}
+use Prim.Native.Nat.{ℕ}
 use lib.Dec.{lit≤}
 use Rattle.memory_allocator.specs.Names.{pool}
-use Rattle.holder_check.proofs.Listed.{refused-unsound, count_fits, judged-listed}
+use Rattle.calls.specs.Calls.{number_of}
+use Rattle.calls.proofs.Numbers.{refusal-nonzero}
+use Rattle.holder_check.proofs.Listed.{listed-as, refused-unsound, count_fits, judged-listed}
 use Rattle.holder_check.proofs.Owned.{owned-memory}
 use Rattle.holder_check.proofs.is_sound.Goals as goal
 
-pub returns-then-number-ne0 : goal.returns-then-number-ne0
-returns-then-number-ne0 c =
-    let n = c in let l = n in let start = l in
-    refused-unsound pool start.args.s _ _ _ _ _ l.listing-listed.ensures (lit≤ tt) (owned-memory start.args.s _ start.well_formed.0) refl refl (λ q. c.if-number-ne0.true (n.number_of-number.ensures ∙ q))
+pub returns-in-Err : goal.returns-in-Err
+returns-in-Err c =
+    let s = c.args.s in
+    refused-unsound pool s _ _ _ _ _ c.listing.ensures (lit≤ tt) (owned-memory s _ c.well_formed.0) refl refl (λ q. refusal-nonzero ℕ _ (sym (ap number_of c.in-Err.is) ∙ q))
 
 pub is_register_sound-requires : goal.is_register_sound-requires
 is_register_sound-requires c =
-    let t = c in let n = t in let l = n in let start = l in
-    count_fits pool start.args.s _ _ _ _ _ l.listing-listed.ensures (lit≤ tt) (owned-memory start.args.s _ start.well_formed.0) refl refl (sym n.number_of-number.ensures ∙ t.if-number-ne0.false)
+    let s = c.args.s in
+    count_fits pool s _ _ _ _ _ (listed-as pool _ _ _ _ _ _ _ c.in-Ok.is c.listing.ensures) (lit≤ tt) (owned-memory s _ c.well_formed.0) refl refl refl
 
-pub returns : goal.returns
-returns c =
-    let t = c in let n = t in let l = n in let start = l in
+pub returns-in-Ok : goal.returns-in-Ok
+returns-in-Ok c =
+    let s = c.args.s in
     c.is_register_sound.ensures
-    ∙ judged-listed pool start.args.s _ _ _ _ _ l.listing-listed.ensures (lit≤ tt) (owned-memory start.args.s _ start.well_formed.0) refl refl (sym n.number_of-number.ensures ∙ t.if-number-ne0.false)
+    ∙ judged-listed pool s _ _ _ _ _ (listed-as pool _ _ _ _ _ _ _ c.in-Ok.is c.listing.ensures) (lit≤ tt) (owned-memory s _ c.well_formed.0) refl refl refl

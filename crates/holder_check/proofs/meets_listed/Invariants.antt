@@ -1,4 +1,4 @@
-use Prim.Native.Nat.{suc, ◌-◌}
+use Prim.Native.Nat.{suc}
 use mathlib.Core.Path.{◌≡◌}
 use Rattle.rules.specs.Rules.{any, meets}
 use Rattle.holder_check.specs.Spans.{spans}
@@ -8,7 +8,3 @@ use Rattle.holder_check.proofs.meets_listed.Given as goal
 abbrev pub invariant-loop-i : goal.invariant-loop-i
 invariant-loop-i l =
     any (meets l.first (suc l.last)) (spans l.count l.starts l.lasts) ≡ any (meets l.first (suc l.last)) (from l.i l.count l.starts l.lasts)
-
-abbrev pub decreases-loop-i : goal.decreases-loop-i
-decreases-loop-i l =
-    l.count - l.i

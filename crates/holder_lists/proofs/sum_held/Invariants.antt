@@ -6,10 +6,6 @@ use Rattle.holder_rules.specs.Register.{entries}
 use Rattle.holder_lists.specs.Whose.{found}
 use Rattle.holder_lists.proofs.sum_held.Given as goal
 
-abbrev pub invariant-loop-i : goal.invariant-loop-i
-invariant-loop-i l =
-    sum (found l.whose l.register.entries) ≡ l.bytes + sum (found l.whose (drop l.i l.register.entries))
-
-abbrev pub decreases-loop-i : goal.decreases-loop-i
-decreases-loop-i l =
-    entries - l.i
+abbrev pub invariant-loop-e : goal.invariant-loop-e
+invariant-loop-e l =
+    sum (found l.whose l.fn.register.entries) ≡ l.bytes + sum (found l.whose (drop l.e-index l.fn.register.entries))

@@ -16,33 +16,33 @@ pub serve_sound-served-requires : goal.serve_sound-served-requires
 serve_sound-served-requires c =
     let s = c in memory-sound pool s.args.s s.requires
 
-pub returns-then-number_of-eq-INVALID_REQUEST : goal.returns-then-number_of-eq-INVALID_REQUEST
+pub returns-then-is_invalid_request : goal.returns-then-is_invalid_request
 unfolding give_back_lem
-returns-then-number_of-eq-INVALID_REQUEST c =
+returns-then-is_invalid_request c =
     let n = c in let w = n in let x = w.args in
-    four pool x.s (Free x.address.0 x.size) _ w.serve_sound-served.ensures (not (any (yours x.holder.0 x.address.0 x.size) (held x.s.register.entries))) (leave x.holder.0 x.address.0 x.size x.s.register.entries) (sym n.number_of.ensures ∙ c.if-number_of-eq-INVALID_REQUEST.true)
+    four pool x.s (Free x.address.0 x.size) _ w.serve_sound-served.ensures (not (any (yours x.holder.0 x.address.0 x.size) (held x.s.register.entries))) (leave x.holder.0 x.address.0 x.size x.s.register.entries) (sym n.is_invalid_request.ensures ∙ c.if-is_invalid_request.true)
 
 pub returns-in_default : goal.returns-in_default
 unfolding give_back_lem
 returns-in_default c =
     let p = c in let t = p in let n = t in let w = n in let x = w.args in
-    five pool x.s (Free x.address.0 x.size) _ w.serve_sound-served.ensures (not (any (yours x.holder.0 x.address.0 x.size) (held x.s.register.entries))) (leave x.holder.0 x.address.0 x.size x.s.register.entries) (λ e. t.if-number_of-eq-INVALID_REQUEST.false (n.number_of.ensures ∙ e))
+    five pool x.s (Free x.address.0 x.size) _ w.serve_sound-served.ensures (not (any (yours x.holder.0 x.address.0 x.size) (held x.s.register.entries))) (leave x.holder.0 x.address.0 x.size x.s.register.entries) (sym n.is_invalid_request.ensures ∙ t.if-is_invalid_request.false)
     (ap not (handed-none x.holder.0 x.address.0 x.size x.s.register.entries _ p.find_handed.ensures c.in_default.is))
 
 pub with_entry-next-requires : goal.with_entry-next-requires
 with_entry-next-requires c =
     let i = c in let p = i in let s = p in let x = s.args in
     let l = owned-register x.s _ s.well_formed.0 in
-    let h = (handed-stores x.holder.0 x.address.0 x.size x.s.register.entries _ p.find_handed.ensures _ i.in-At.is).within in
+    let h = (handed-stores x.holder.0 x.address.0 x.size x.s.register.entries _ p.find_handed.ensures _ i.in-Some.is).within in
     omega arith
 
 pub returns : goal.returns
 unfolding give_back_lem
 returns c =
     let e = c in let u = e in let i = u in let p = i in let t = p in let n = t in let w = n in let x = w.args in
-    let found = handed-stores x.holder.0 x.address.0 x.size x.s.register.entries _ p.find_handed.ensures _ i.in-At.is in
+    let found = handed-stores x.holder.0 x.address.0 x.size x.s.register.entries _ p.find_handed.ensures _ i.in-Some.is in
     c.follow.ensures
     ∙ followed-with pool x.s (Free x.address.0 x.size) _ w.serve_sound-served.ensures (not (any (yours x.holder.0 x.address.0 x.size) (held x.s.register.entries)))
-    (leave x.holder.0 x.address.0 x.size x.s.register.entries) (λ e. t.if-number_of-eq-INVALID_REQUEST.false (n.number_of.ensures ∙ e))
-    (ap not (handed-any x.holder.0 x.address.0 x.size x.s.register.entries _ p.find_handed.ensures _ i.in-At.is)) _
-    (e.with_entry-next.ensures ∙ ap (λ (q : Entry). set x.s.register.entries i.in-At.i.0 q) u.unused_entry.ensures ∙ found.stored blank)
+    (leave x.holder.0 x.address.0 x.size x.s.register.entries) (sym n.is_invalid_request.ensures ∙ t.if-is_invalid_request.false)
+    (ap not (handed-any x.holder.0 x.address.0 x.size x.s.register.entries _ p.find_handed.ensures _ i.in-Some.is)) _
+    (e.with_entry-next.ensures ∙ ap (λ (q : Entry). set x.s.register.entries i.in-Some.i.0 q) u.unused_entry.ensures ∙ found.stored blank)

@@ -11,21 +11,21 @@ pub serve_sound-served-requires : goal.serve_sound-served-requires
 serve_sound-served-requires c =
     let s = c in memory-sound pool s.args.s s.requires
 
-pub returns-then-number_of-eq-INVALID_REQUEST : goal.returns-then-number_of-eq-INVALID_REQUEST
+pub returns-then-is_invalid_request : goal.returns-then-is_invalid_request
 unfolding offer
-returns-then-number_of-eq-INVALID_REQUEST c =
+returns-then-is_invalid_request c =
     let n = c in let w = n in let x = w.args in
-    four pool x.s (Free x.address.0 x.size) _ w.serve_sound-served.ensures (any (meets x.address.0 (x.address.0 + x.size)) (held x.s.register.entries)) x.s.register.entries (sym n.number_of.ensures ∙ c.if-number_of-eq-INVALID_REQUEST.true)
+    four pool x.s (Free x.address.0 x.size) _ w.serve_sound-served.ensures (any (meets x.address.0 (x.address.0 + x.size)) (held x.s.register.entries)) x.s.register.entries (sym n.is_invalid_request.ensures ∙ c.if-is_invalid_request.true)
 
 pub returns-then-meets_held : goal.returns-then-meets_held
 unfolding offer
 returns-then-meets_held c =
     let t = c in let n = t in let w = n in let x = w.args in
-    five pool x.s (Free x.address.0 x.size) _ w.serve_sound-served.ensures (any (meets x.address.0 (x.address.0 + x.size)) (held x.s.register.entries)) x.s.register.entries (λ e. t.if-number_of-eq-INVALID_REQUEST.false (n.number_of.ensures ∙ e)) (sym c.meets_held.ensures ∙ c.if-meets_held.true)
+    five pool x.s (Free x.address.0 x.size) _ w.serve_sound-served.ensures (any (meets x.address.0 (x.address.0 + x.size)) (held x.s.register.entries)) x.s.register.entries (sym n.is_invalid_request.ensures ∙ t.if-is_invalid_request.false) (sym c.meets_held.ensures ∙ c.if-meets_held.true)
 
 pub returns : goal.returns
 unfolding offer
 returns c =
     let m = c in let t = m in let n = t in let w = n in let x = w.args in
     c.follow.ensures
-    ∙ followed pool x.s (Free x.address.0 x.size) _ w.serve_sound-served.ensures (any (meets x.address.0 (x.address.0 + x.size)) (held x.s.register.entries)) x.s.register.entries (λ e. t.if-number_of-eq-INVALID_REQUEST.false (n.number_of.ensures ∙ e)) (sym m.meets_held.ensures ∙ m.if-meets_held.false)
+    ∙ followed pool x.s (Free x.address.0 x.size) _ w.serve_sound-served.ensures (any (meets x.address.0 (x.address.0 + x.size)) (held x.s.register.entries)) x.s.register.entries (sym n.is_invalid_request.ensures ∙ t.if-is_invalid_request.false) (sym m.meets_held.ensures ∙ m.if-meets_held.false)

@@ -1,3 +1,5 @@
+use lib.ListN.{length-replicate}
+use Rattle.holder_rules.specs.Register as register
 use Prim.Native.Nat.{◌-◌}
 use mathlib.Core.Bool.{true}
 use mathlib.Core.Path.{◌≡◌, refl, sym, ap, ◌∙◌}
@@ -5,7 +7,6 @@ use native.Mathlib.Omega.{arith}
 use lib.IntN.{ℤ}
 use lib.ListN.{length}
 use Rattle.pool_state.specs.Shown.{pool}
-use Rattle.pool_state.proofs.States.{fresh-state}
 use Rattle.image_parts.specs.Layout.{current}
 use Rattle.c_over.specs.CCalls.{returned}
 use Rattle.holder_image.proofs.Parts.{headed-size}
@@ -36,11 +37,11 @@ slice_bounds-read_current-end c =
 
 pub read_current-readable-requires : goal.read_current-readable-requires
 read_current-readable-requires c =
-    fresh-state pool
+    c.new-ranges.ensures
 
-pub read_arrays-requires : goal.read_arrays-requires
-read_arrays-requires c =
-    let t = c in ((let h = headed-size current t.args.image.now (headed-told (goal.at.read_arrays-requires t).Then-is_headed) in omega arith), record { holders-fit = refl; starts_fit = refl; lasts_fit = refl })
+pub fill_register-requires : goal.fill_register-requires
+fill_register-requires c =
+    let h = headed-size current c.args.image.now (headed-told (goal.at.fill_register-requires c).Then-is_headed) in (omega arith, length-replicate register.entries c.unused_entry.result)
 
 pub is_register_sound_in-requires : goal.is_register_sound_in-requires
 is_register_sound_in-requires c =
@@ -52,20 +53,20 @@ pub serve_held-requires : goal.serve_held-requires
 serve_held-requires c =
     let then3 = c in let v = then3 in let ra = v in let then2 = ra in let rc = then2 in let t = rc in let k = t in let x = k.args in
     let whole = headed-size current x.image.now (headed-told (goal.at.serve_held-requires t).Then-is_headed) in
-    record { held_in = (read_held x.image.now (length x.image.now - memory_at) (omega arith) _ _ rc.read_current-readable.ensures then2.if-readable.true); serves = record { front = headed-told (goal.at.serve_held-requires t).Then-is_headed; bytes = λ i b. (k.slice_known-1.given i).fits; sound = (judged x.image.now _ (read_held x.image.now (length x.image.now - memory_at) (omega arith) _ _ rc.read_current-readable.ensures then2.if-readable.true) _ _ v.is_register_sound_in.ensures ∙ then3.if-is_register_sound_in.true); register = ra.read_arrays.ensures } }
+    record { held_in = (read_held x.image.now (length x.image.now - memory_at) (omega arith) _ _ rc.read_current-readable.ensures then2.if-readable.true); serves = record { front = headed-told (goal.at.serve_held-requires t).Then-is_headed; bytes = λ i b. (k.slice_known-1.given i).fits; sound = (judged x.image.now _ (read_held x.image.now (length x.image.now - memory_at) (omega arith) _ _ rc.read_current-readable.ensures then2.if-readable.true) _ _ v.is_register_sound_in.ensures ∙ then3.if-is_register_sound_in.true); register = ra.fill_register.ensures } }
 
 pub returns-then-is_register_sound_in : goal.returns-then-is_register_sound_in
 returns-then-is_register_sound_in c =
     let g = c in let then3 = g in let v = then3 in let ra = v in let then2 = ra in let rc = then2 in let t = rc in let k = t in let x = k.args in
     let whole = headed-size current x.image.now (headed-told (goal.at.returns-then-is_register_sound_in t).Then-is_headed) in
     ap (λ (i : ℤ). returned i g.serve_held.new.image) (as-held g.serve_held.result (record { sfits = g.serve_held.type_inv })) ∙ g.serve_held.ensures
-    ∙ sound-served current x.image.now (requested x.request) (headed-told (goal.at.returns-then-is_register_sound_in t).Then-is_headed) (ap (sound_in_lem current (memory_in x.image.now)) (sym ra.read_arrays.ensures) ∙ (judged x.image.now _ (read_held x.image.now (length x.image.now - memory_at) (omega arith) _ _ rc.read_current-readable.ensures then2.if-readable.true) _ _ v.is_register_sound_in.ensures ∙ then3.if-is_register_sound_in.true))
+    ∙ sound-served current x.image.now (requested x.request) (headed-told (goal.at.returns-then-is_register_sound_in t).Then-is_headed) (ap (sound_in_lem current (memory_in x.image.now)) (sym ra.fill_register.ensures) ∙ (judged x.image.now _ (read_held x.image.now (length x.image.now - memory_at) (omega arith) _ _ rc.read_current-readable.ensures then2.if-readable.true) _ _ v.is_register_sound_in.ensures ∙ then3.if-is_register_sound_in.true))
 
 pub returns-else-is_register_sound_in : goal.returns-else-is_register_sound_in
 returns-else-is_register_sound_in c =
     let v = c in let ra = v in let then2 = ra in let rc = then2 in let t = rc in let k = t in let x = k.args in
     let whole = headed-size current x.image.now (headed-told (goal.at.returns-else-is_register_sound_in t).Then-is_headed) in
-    not_sound current x.image.now (requested x.request) (headed-told (goal.at.returns-else-is_register_sound_in t).Then-is_headed) (ap (sound_in_lem current (memory_in x.image.now)) (sym ra.read_arrays.ensures) ∙ (judged x.image.now _ (read_held x.image.now (length x.image.now - memory_at) (omega arith) _ _ rc.read_current-readable.ensures then2.if-readable.true) _ _ v.is_register_sound_in.ensures ∙ c.if-is_register_sound_in.false))
+    not_sound current x.image.now (requested x.request) (headed-told (goal.at.returns-else-is_register_sound_in t).Then-is_headed) (ap (sound_in_lem current (memory_in x.image.now)) (sym ra.fill_register.ensures) ∙ (judged x.image.now _ (read_held x.image.now (length x.image.now - memory_at) (omega arith) _ _ rc.read_current-readable.ensures then2.if-readable.true) _ _ v.is_register_sound_in.ensures ∙ c.if-is_register_sound_in.false))
 
 pub returns-else-readable : goal.returns-else-readable
 returns-else-readable c =

@@ -7,7 +7,6 @@ use mir.Val.{to_z, of_z}
 use Rattle.image_parts.specs.Layout.{current}
 use Rattle.c_over.specs.Images.{images}
 use Rattle.holder_image.specs.Bytes.{holding_in}
-use Rattle.holder_arrays.specs.Arrays.{register_of}
 use Rattle.holder_calls.specs.Calls.{Asks, Settles}
 use Rattle.holder_rules.specs.Holders.{step, below}
 use Rattle.holder_serve.specs.Made.{requested}
@@ -17,10 +16,10 @@ use Rattle.holder_calls.proofs.Settled.{same_answer}
 use Rattle.holder_calls.proofs.settle.settle.Goals.{Start}
 use Rattle.holder_calls.proofs.settle.settle.Goals as goal
 
-asked-as : (s : Start) (q : HolderRequest) → s.args.request ≡ q → let x = s.args in Asks current (below (requested q)) x.image.now (register_of x.holders.now x.starts.now x.lasts.now) (to_z w64 (of_z w64 x.answer))
+asked-as : (s : Start) (q : HolderRequest) → s.args.request ≡ q → let x = s.args in Asks current (below (requested q)) x.image.now x.register.now.entries (to_z w64 (of_z w64 x.answer))
 asked-as s q e =
     let x = s.args in
-    held x.answer s.ranges.answer (λ (y : ℤ). Asks current (below (requested q)) x.image.now (register_of x.holders.now x.starts.now x.lasts.now) y) (subst (λ (r : HolderRequest). Asks current (below (requested r)) x.image.now (register_of x.holders.now x.starts.now x.lasts.now) x.answer) e s.requires)
+    held x.answer s.ranges.answer (λ (y : ℤ). Asks current (below (requested q)) x.image.now x.register.now.entries y) (subst (λ (r : HolderRequest). Asks current (below (requested r)) x.image.now x.register.now.entries x.answer) e s.requires)
 
 abbrev Settled : Start → List ℕ → ℤ → HolderRequest → Type 0
 Settled s l' y r = let x = s.args in Settles current (below (requested r)) (step (images current []) (requested r) (holding_in x.image.now)) x.image.now x.answer y l'

@@ -13,18 +13,6 @@ pub loop-i-init : goal.loop-i-init
 loop-i-init c =
     lay-start _ 0 entry_size entries _ (let p = c.requires in omega arith)
 
-pub bounds-register-i : goal.bounds-register-i
-bounds-register-i c =
-    let s = c in let e = owned-entries s.args.register _ s.well_formed.1.0 in let l = c.loop-i-test.true in omega arith
-
-pub overflow_mul-at : goal.overflow_mul-at
-overflow_mul-at c =
-    let l = c.loop-i-test.true in omega arith
-
-pub overflow_add-at : goal.overflow_add-at
-overflow_add-at c =
-    let l = c.loop-i-test.true in omega arith
-
 pub slice_bounds-write_entry-end : goal.slice_bounds-write_entry-end
 slice_bounds-write_entry-end c =
     let l = c.loop-i-test.true in let s = c.loop-i.invariant.sized in omega arith
@@ -32,14 +20,6 @@ slice_bounds-write_entry-end c =
 pub write_entry-requires : goal.write_entry-requires
 write_entry-requires c =
     let l = c.loop-i-test.true in let s = c.loop-i.invariant.sized in simp (length-take, length-drop) (omega arith)
-
-pub overflow_add-i : goal.overflow_add-i
-overflow_add-i c =
-    let l = c.loop-i-test.true in omega arith
-
-pub loop-i-smaller : goal.loop-i-smaller
-loop-i-smaller c =
-    let l = c.loop-i-test.true in omega arith
 
 pub loop-i-preserved : goal.loop-i-preserved
 loop-i-preserved c =

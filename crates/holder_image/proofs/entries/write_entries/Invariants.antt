@@ -10,7 +10,3 @@ use Rattle.holder_image.proofs.entries.write_entries.Given as goal
 abbrev pub invariant-loop-i : goal.invariant-loop-i
 invariant-loop-i l =
     Laying (λ j. entry_bytes (get_or l.register.entries j blank)) 0 entry_size entries l.i [] l.part
-
-abbrev pub decreases-loop-i : goal.decreases-loop-i
-decreases-loop-i l =
-    entries - l.i

@@ -1,2 +1,0 @@
--- Laws of the register in arrays.
-pub mod Arrays
