@@ -1,4 +1,5 @@
 -- Images and what they tell of sound accounts are one to one, over any layout whose fields can hold its numbers. Assumes nothing.
+use Rattle.std.specs.Prelude.{Ok, Err}
 use mathlib.Core.Path.{◌≡◌, refl, sym, ◌∙◌, ap}
 use mathlib.Core.Bool.{Bool, true, false, cond, ◌&&◌}
 use mathlib.Core.Logic.{◌↔◌, ◌≢◌}
@@ -16,13 +17,12 @@ use Rattle.account_state.proofs.Exact.{sound-passes, passes-sound}
 use Rattle.bytes_be.specs.Numbers.{Bytes}
 use Rattle.image_parts.specs.Layout.{Layout, Lawful, Figured, word, image_size_lem}
 use Rattle.image_writing.specs.Writing.{image_of}
-use Rattle.image.specs.Writing.{Image, number_of, written, writing_of}
+use Rattle.image.specs.Writing.{Image, number_of, written, writing_of, invalid}
 use Rattle.image_parts.proofs.Lawful.{small-pool}
 use Rattle.image_parts.proofs.Loops.{both}
 use Rattle.image_reading.specs.Reading.{framed, account_in}
 use Rattle.image_reading.proofs.Whole.{state-sized}
 use Rattle.image.specs.Reading.{Handed, accepted, refused, told_by_lem, reading_of}
-use Rattle.image.specs.declared.ImageAnswer.TheVariants.{Done, InvalidEntry}
 use Rattle.image.proofs.Ways.{Frame, framed-frame, frame-framed, read_done, done}
 use Rattle.image.proofs.Fitting.{Fits, sound-fits, low_fits}
 use Rattle.image.proofs.ReadBack.{account-back, frame_back}
@@ -34,19 +34,19 @@ record Accepted (f : Layout) (l : List ℕ) : Type 0 where
   passes : is_sound_lem f.records (account_in f l) ≡ true
   reads : reading_of f l ≡ accepted (account_in f l)
 
-accepted-parts : (f : Layout) (l : List ℕ) → (reading_of f l).number ≡ number_of Done → Accepted f l
+accepted-parts : (f : Layout) (l : List ℕ) → (reading_of f l).number ≡ number_of (Ok tt) → Accepted f l
 unfolding reading_of
 accepted-parts f l e = go (framed f l && is_sound_lem f.records (account_in f l)) refl e
   where
-    go : (t : Bool) → (framed f l && is_sound_lem f.records (account_in f l)) ≡ t → (cond {A = Handed} t (accepted (account_in f l)) (refused f)).number ≡ number_of Done → Accepted f l
+    go : (t : Bool) → (framed f l && is_sound_lem f.records (account_in f l)) ≡ t → (cond {A = Handed} t (accepted (account_in f l)) (refused f)).number ≡ number_of (Ok tt) → Accepted f l
     go true h k = let p = both (framed f l) (is_sound_lem f.records (account_in f l)) h in record { frames = p.0; passes = p.1; reads = rw h }
     go false h k = absurd (omega arith)
 
-either : (f : Layout) (l : List ℕ) → ((reading_of f l).number ≡ number_of Done → ⊥) → (reading_of f l).number ≡ number_of InvalidEntry
+either : (f : Layout) (l : List ℕ) → ((reading_of f l).number ≡ number_of (Ok tt) → ⊥) → (reading_of f l).number ≡ number_of (Err invalid)
 unfolding reading_of
 either f l = go (framed f l && is_sound_lem f.records (account_in f l))
   where
-    go : (t : Bool) → ((cond {A = Handed} t (accepted (account_in f l)) (refused f)).number ≡ number_of Done → ⊥) → (cond {A = Handed} t (accepted (account_in f l)) (refused f)).number ≡ number_of InvalidEntry
+    go : (t : Bool) → ((cond {A = Handed} t (accepted (account_in f l)) (refused f)).number ≡ number_of (Ok tt) → ⊥) → (cond {A = Handed} t (accepted (account_in f l)) (refused f)).number ≡ number_of (Err invalid)
     go true h = absurd (h refl)
     go false h = refl
 
@@ -84,26 +84,26 @@ module _ (f : Layout) (lawful : Lawful f) where
     read-after-write l len = rw (← done f a l len true (sym (sound-passes f.records small a h)) (image_of f a) refl refl) read-written
 
   -- writing what was read gives the bytes
-  pub written_read : (l : List ℕ) → Bytes l → (reading_of f l).number ≡ number_of Done → image_of f (reading_of f l).state ≡ l
+  pub written_read : (l : List ℕ) → Bytes l → (reading_of f l).number ≡ number_of (Ok tt) → image_of f (reading_of f l).state ≡ l
   written_read l bytes e = let p = accepted-parts f l e in rw p.reads (image-again f lawful l bytes (framed-frame f l p.frames))
 
-  pub write-after-read : (l l' : List ℕ) → Bytes l → (reading_of f l).number ≡ number_of Done → length l' ≡ image_size_lem f → writing_of f (reading_of f l).state l' ≡ written Done l
+  pub write-after-read : (l l' : List ℕ) → Bytes l → (reading_of f l).number ≡ number_of (Ok tt) → length l' ≡ image_size_lem f → writing_of f (reading_of f l).state l' ≡ written (Ok tt) l
   write-after-read l l' bytes e len =
       let p = accepted-parts f l e in
       let t : is_sound_lem f.records (reading_of f l).state ≡ true = rw p.reads p.passes in
       sym (done f (reading_of f l).state l' len true (sym t) l refl (sym (written_read l bytes e)))
 
   -- what is accepted is the image of a sound account, and every such image is
-  pub image-accepted : (l : List ℕ) → Image f l → (reading_of f l).number ≡ number_of Done
+  pub image-accepted : (l : List ℕ) → Image f l → (reading_of f l).number ≡ number_of (Ok tt)
   image-accepted l i = rw (← i.bytes, read-written i.state i.sound)
 
-  pub accepted-image : (l : List ℕ) → Bytes l → (reading_of f l).number ≡ number_of Done → Image f l
+  pub accepted-image : (l : List ℕ) → Bytes l → (reading_of f l).number ≡ number_of (Ok tt) → Image f l
   accepted-image l bytes e =
       let p = accepted-parts f l e in
       record { state = account_in f l; sound = passes-sound f.records small (account_in f l) (state-sized f l) p.passes; bytes = image-again f lawful l bytes (framed-frame f l p.frames) }
 
   -- refused is exactly what no sound account writes
-  pub refused-exactly : (l : List ℕ) → Bytes l → ((reading_of f l).number ≡ number_of InvalidEntry) ↔ (Image f l → ⊥)
+  pub refused-exactly : (l : List ℕ) → Bytes l → ((reading_of f l).number ≡ number_of (Err invalid)) ↔ (Image f l → ⊥)
   refused-exactly l bytes = (λ e i. (let p = image-accepted l i in omega arith), λ none-writes. either f l (λ e. none-writes (accepted-image l bytes e)))
 
   -- of two sound accounts with one image, it tells the same

@@ -1,4 +1,5 @@
 -- Images of every version that is read: what reading them gives, what is refused, and that writing what was read and reading it again changes nothing. Assumes nothing.
+use Rattle.std.specs.Prelude.{Ok, Err}
 use mathlib.Core.Path.{◌≡◌, refl, sym, ◌∙◌, ap, subst}
 use mathlib.Core.Bool.{Bool, true, false, cond}
 use mathlib.Core.List.{List}
@@ -24,9 +25,8 @@ use Rattle.image_parts.proofs.Lawful.{small-pool, housed-of}
 use Rattle.image_writing.specs.Writing.{image_of}
 use Rattle.image_reading.specs.Reading.{grown}
 use Rattle.image_reading.proofs.Grown.{wider}
-use Rattle.image.specs.Writing.{Image, number_of}
+use Rattle.image.specs.Writing.{Image, number_of, invalid}
 use Rattle.image.specs.Reading.{Handed, accepted, told_by_lem, reading_of, layout_in, reading_any}
-use Rattle.image.specs.declared.ImageAnswer.TheVariants.{Done, InvalidEntry}
 use Rattle.image.proofs.Rounds.{told-sound, framed-back, read-written, image-accepted, accepted-image, refused-exactly}
 
 -- ---- what grows keeps its chain, its shelf and its figure, and stays sound
@@ -85,24 +85,24 @@ module _ (l : List ℕ) (bytes : Bytes l) where
   housed = housed-of (number_in l 0 length_at)
 
   -- what is accepted is the image of a sound account by the layout that the first byte tells
-  pub any-image : (reading_any l).number ≡ number_of Done → Image f l
+  pub any-image : (reading_any l).number ≡ number_of (Ok tt) → Image f l
   unfolding reading_any
   any-image e = accepted-image f housed.lawful l bytes e
 
-  pub any-state : (h : (reading_any l).number ≡ number_of Done) → reading_any l ≡ accepted (grown f.records pool (told_by_lem f (any-image h).state))
+  pub any-state : (h : (reading_any l).number ≡ number_of (Ok tt)) → reading_any l ≡ accepted (grown f.records pool (told_by_lem f (any-image h).state))
   unfolding reading_any
   any-state h =
       let i = any-image h in
       let e = ap (reading_of f) (sym i.bytes) ∙ read-written f housed.lawful i.state i.sound in
       rw e
 
-  pub any-sound : (reading_any l).number ≡ number_of Done → SoundAccount pool (reading_any l).state
+  pub any-sound : (reading_any l).number ≡ number_of (Ok tt) → SoundAccount pool (reading_any l).state
   any-sound h =
       let i = any-image h in
       subst (SoundAccount pool) (sym (ap (λ (x : Handed). x.state) (any-state h))) (grown-sound f housed (told_by_lem f i.state) (told-sound f i.state i.sound))
 
   -- what was read, written as the current version and read again, is the same
-  pub again-same : (reading_any l).number ≡ number_of Done → reading_any (image_of current (reading_any l).state) ≡ reading_any l
+  pub again-same : (reading_any l).number ≡ number_of (Ok tt) → reading_any (image_of current (reading_any l).state) ≡ reading_any l
   again-same h =
       let e = any-state h in
       read-current (reading_any l).state (any-sound h) ∙ sym (e ∙ ap accepted (sym (ap (λ (x : Handed). x.state) e)))
@@ -120,17 +120,17 @@ pub record Unwritten (l : List ℕ) : Type 0 where
   pub now : Image current l → ⊥
 
 -- refused is exactly that
-pub refused-any : (l : List ℕ) → Bytes l → ((reading_any l).number ≡ number_of InvalidEntry) ↔ Unwritten l
+pub refused-any : (l : List ℕ) → Bytes l → ((reading_any l).number ≡ number_of (Err invalid)) ↔ Unwritten l
 unfolding reading_any
 refused-any l bytes = (
   λ e. record { first = no version1 (housed-of 1) refl e; second = no version2 (housed-of 2) refl e; now = no current (housed-of 3) refl e },
   λ h. (refused-exactly (layout_in l) (housed-of (number_in l 0 length_at)).lawful l bytes).1 (pick (eqb (number_in l 0 length_at) version1.version) (eqb (number_in l 0 length_at) version2.version) h),
 )
   where
-    no : (f : Layout) → Housed f → layout_of f.version ≡ f → (reading_of (layout_in l) l).number ≡ number_of InvalidEntry → Image f l → ⊥
+    no : (f : Layout) → Housed f → layout_of f.version ≡ f → (reading_of (layout_in l) l).number ≡ number_of (Err invalid) → Image f l → ⊥
     no f housed same e i =
         let told = image-told f housed same l i in
-        (refused-exactly f housed.lawful l bytes).0 (subst (λ (x : Layout). (reading_of x l).number ≡ number_of InvalidEntry) told e) i
+        (refused-exactly f housed.lawful l bytes).0 (subst (λ (x : Layout). (reading_of x l).number ≡ number_of (Err invalid)) told e) i
 
     pick : (t u : Bool) → Unwritten l → Image (cond t version1 (cond u version2 current)) l → ⊥
     pick true u h = h.first

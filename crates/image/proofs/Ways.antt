@@ -1,4 +1,5 @@
 -- What the definitions give on each way through the code, over any layout. Assumes nothing.
+use Rattle.std.specs.Prelude.{Ok, Err}
 use mathlib.Core.Path.{◌≡◌, refl, sym, ap, subst, ◌∙◌}
 use mathlib.Core.Bool.{Bool, true, false, cond, ◌&&◌}
 use mathlib.Core.List.{List}
@@ -17,27 +18,26 @@ use Rattle.account_state.specs.Account.{account, opened, is_sound_lem}
 use Rattle.account_state.specs.declared.Account.{Account}
 use Rattle.image_parts.specs.Layout.{Layout, Housed, current, length_at, length_size, records_at_lem, enabled_at, record_size_lem, image_size_lem, rest_size}
 use Rattle.image_writing.specs.Writing.{image_of}
-use Rattle.image.specs.Writing.{written, writing_of}
+use Rattle.image.specs.Writing.{written, writing_of, invalid}
 use Rattle.image_parts.specs.Read.{number_in, bits}
 use Rattle.image_parts.proofs.Loops.{both}
 use Rattle.image_reading.specs.Reading.{framed, account_in, readable, grown, ReadsAccount}
 use Rattle.image_parts.proofs.Lawful.{small-pool, housed-of}
 use Rattle.image.specs.Reading.{Handed, handed, accepted, refused, reading_of, layout_in, reading_any}
-use Rattle.image.specs.declared.ImageAnswer.TheVariants.{Done, InvalidEntry}
 
 -- ---- writing
 
 module _ (f : Layout) (s : Account) (l : List ℕ) where
-  pub wrong-length : (length l ≡ image_size_lem f → ⊥) → written InvalidEntry l ≡ writing_of f s l
+  pub wrong-length : (length l ≡ image_size_lem f → ⊥) → written (Err invalid) l ≡ writing_of f s l
   unfolding writing_of
   wrong-length h = rw (ne_eqb (length l) (image_size_lem f) h)
 
   module _ (h : length l ≡ image_size_lem f) (t : Bool) (e : t ≡ is_sound_lem f.records s) where
-    pub unsound : t ≡ false → written InvalidEntry l ≡ writing_of f s l
+    pub unsound : t ≡ false → written (Err invalid) l ≡ writing_of f s l
     unfolding writing_of
     unsound off = rw (eq-eqb (length l) (image_size_lem f) h, ← e, off)
 
-    pub done : (l' : List ℕ) → t ≡ true → l' ≡ image_of f s → written Done l' ≡ writing_of f s l
+    pub done : (l' : List ℕ) → t ≡ true → l' ≡ image_of f s → written (Ok tt) l' ≡ writing_of f s l
     unfolding writing_of
     done l' on is = rw (eq-eqb (length l) (image_size_lem f) h, ← e, on, is)
 
@@ -117,10 +117,10 @@ module _ (l : List ℕ) (r : Bool) (told : r ≡ readable (layout_in l) l) where
   unfolding reading_any
   any-unread off =
       let e = unread f l r told off in
-      rw (← e) (ap (handed InvalidEntry) (sym (empty-grows f.records pool (small-pool f (housed-of (number_in l 0 length_at)).lawful))))
+      rw (← e) (ap (handed (Err invalid)) (sym (empty-grows f.records pool (small-pool f (housed-of (number_in l 0 length_at)).lawful))))
 
   pub any-read : r ≡ true → (s : Account) → s ≡ grown f.records pool (account_in f l) → accepted s ≡ reading_any l
   unfolding reading_any
   any-read on s es =
       let e = read_whole f l r told on (account_in f l) refl in
-      rw (← e) (ap (handed Done) es)
+      rw (← e) (ap (handed (Ok tt)) es)

@@ -1,14 +1,12 @@
 -- What reading a list of bytes answers. Assumes nothing.
-use Rattle.std.specs.Prelude.{ℕ, cond, List, eqb}
+use Rattle.std.specs.Prelude.{ℕ, cond, List, eqb, Ok, Err}
 use Rattle.account_state.specs.Account.{account, opened}
 use Rattle.account_state.specs.declared.Account.{Account}
 use Rattle.image_parts.specs.Layout.{Layout, length_at, layout_of}
 use Rattle.image_parts.specs.Read.{number_in}
 use Rattle.pool_state.specs.Shown.{pool}
 use Rattle.image_reading.specs.Reading.{account_in, readable, grown}
-use Rattle.image.specs.Writing.{number_of}
-use Rattle.image.specs.declared.ImageAnswer.{ImageAnswer}
-use Rattle.image.specs.declared.ImageAnswer.TheVariants.{Done, InvalidEntry}
+use Rattle.image.specs.Writing.{number_of, ImageAnswer, invalid}
 
 -- what reading answers, and the account that it hands over
 pub record Handed : Type 0 where
@@ -19,10 +17,10 @@ abbrev pub handed : ImageAnswer → Account → Handed
 handed k a = record { number = number_of k; state = a }
 
 abbrev pub accepted : Account → Handed
-accepted a = handed Done a
+accepted a = handed (Ok tt) a
 
 abbrev pub refused : Layout → Handed
-refused f = handed InvalidEntry (opened f.records)
+refused f = handed (Err invalid) (opened f.records)
 
 unfoldable pub reading_of : Layout → List ℕ → Handed
 reading_of f l = cond (readable f l) (accepted (account_in f l)) (refused f)

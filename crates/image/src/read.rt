@@ -3,24 +3,21 @@ ghost use Rattle.std.specs.Prelude.{◌≡◌};
 ghost use Rattle.image_parts.specs.Layout.{current};
 ghost use Rattle.image.specs.Reading.{handed, refused, reading_any};
 
-use crate::{ImageAnswer, Reading};
+use crate::{InvalidEntry, Reading};
 use account_state::{Account, NEVER};
 use image_parts::layout::layout_of;
 use image_reading::read_fields;
-use pool_state::{LISTS, MemoryAllocator, NONE, POOL, RecordIndex, new};
+use pool_state::new;
 
 fn refusal() -> Reading
     ensures { handed result.answer result.state ≡ refused current }
 {
-    let answer = ImageAnswer::InvalidEntry;
-    let ranges = new();
-    let state = Account {
-        ranges: ranges,
-        lowest: NEVER,
-    };
     Reading {
-        answer: answer,
-        state: state,
+        answer: Err(InvalidEntry),
+        state: Account {
+            ranges: new(),
+            lowest: NEVER,
+        },
     }
 }
 
@@ -29,52 +26,26 @@ pub fn read_image(image: &[u8]) -> Reading
     ensures { handed result.answer result.state ≡ reading_any image.now }
 {
     let form = layout_of(image);
-    let mut lowest: u64 = 0;
-    let mut total: u64 = 0;
-    let mut first: u16 = NONE;
-    let mut heads = [NONE; LISTS];
-    let mut start = [0u64; POOL];
-    let mut end = [0u64; POOL];
-    let mut enabled = [false; POOL];
-    let mut previous = [NONE; POOL];
-    let mut next = [NONE; POOL];
-    let mut lprev = [NONE; POOL];
-    let mut lnext = [NONE; POOL];
+    let mut lowest = 0;
+    let mut ranges = new();
     if read_fields(
         image,
         form,
         &mut lowest,
-        &mut total,
-        &mut first,
-        &mut heads,
-        &mut start,
-        &mut end,
-        &mut enabled,
-        &mut previous,
-        &mut next,
-        &mut lprev,
-        &mut lnext,
+        &mut ranges.free_size,
+        &mut ranges.first_entry.0,
+        &mut ranges.free_list,
+        &mut ranges.start,
+        &mut ranges.end,
+        &mut ranges.enabled,
+        &mut ranges.previous,
+        &mut ranges.next,
+        &mut ranges.list_prev,
+        &mut ranges.list_next,
     ) {
-        let answer = ImageAnswer::Done;
-        let ranges = MemoryAllocator {
-            free_size: total,
-            first_entry: RecordIndex(first),
-            free_list: heads,
-            start: start,
-            end: end,
-            enabled: enabled,
-            previous: previous,
-            next: next,
-            list_prev: lprev,
-            list_next: lnext,
-        };
-        let state = Account {
-            ranges: ranges,
-            lowest: lowest,
-        };
         return Reading {
-            answer: answer,
-            state: state,
+            answer: Ok(()),
+            state: Account { ranges, lowest },
         };
     }
     refusal()

@@ -5,12 +5,13 @@ use mathlib.Core.List.{List}
 use mathlib.Core.Path.{◌≡◌, refl, sym, ◌∙◌, ap, subst}
 use lib.IntN.{ℤ, pos}
 use lib.ListN.{length}
+use Rattle.std.specs.Prelude.{Ok, Err}
 use Rattle.account_state.specs.Account.{SoundAccount, is_sound_lem}
 use Rattle.account_state.specs.declared.Account.{Account}
 use Rattle.account_state.specs.declared.Entered.{Entered}
 use Rattle.account_state.proofs.Exact.{passes-sound}
 use Rattle.calls.specs.Calls.{signed_of}
-use Rattle.calls.specs.declared.Answer.TheVariants.{Accepted, InvalidEntry, InvalidRequest}
+use Rattle.calls.specs.declared.MemoryError.TheVariants.{InvalidEntry, InvalidRequest}
 use Rattle.batch.specs.Lists.{fitted, Served, Serves}
 use Rattle.batch.proofs.Histories.{list-sound}
 use Rattle.batch.proofs.Ways.{unfitted, done}
@@ -26,7 +27,7 @@ use Rattle.image.proofs.Standing.{stands}
 use Rattle.image_calls.specs.Lists.{returned, finished, over, list_over_lem, answers_over, BatchOver, Held}
 
 module _ (f : Layout) (l calls : List ℕ) (old : List ℤ) where
-  pub no-list : readable f l ≡ false → BatchOver f l calls old (signed_of InvalidEntry) l old
+  pub no-list : readable f l ≡ false → BatchOver f l calls old (signed_of (Err InvalidEntry)) l old
   unfolding list_over_lem answers_over over
   no-list off = let e = unread f l false (sym off) refl in record { image-now = rw (← e); answers-now = rw (← e) }
 
@@ -44,7 +45,7 @@ module _ (f : Layout) (l calls : List ℕ) (old : List ℤ) where
     pub held-sized : length l ≡ image_size_lem f
     held-sized = (framed-frame f l (both (framed f l) _ h.serves).0).sized
 
-    pub list-unfitted : fitted calls (length old) ≡ false → BatchOver f l calls old (signed_of InvalidRequest) l old
+    pub list-unfitted : fitted calls (length old) ≡ false → BatchOver f l calls old (signed_of (Err InvalidRequest)) l old
     unfolding finished
     list-unfitted off = served-list _ old (unfitted f.records s calls old passes off) _ l refl
 
@@ -53,7 +54,7 @@ module _ (f : Layout) (l calls : List ℕ) (old : List ℤ) where
       held-sound = rw h.state (passes-sound f.records (small-pool f lawful) (account_in f l) (state-sized f l) (both (framed f l) _ h.serves).1)
 
       module _ (fits : fitted calls (length old) ≡ true) (s' : Account) (now : List ℤ) (sv : Served f.records s calls old s' now) where
-        outcome : Serves f.records s calls old (record { answer = Accepted (record { 0 = 0 }); state = s' }) now
+        outcome : Serves f.records s calls old (record { answer = Ok (record { 0 = 0 }); state = s' }) now
         outcome = done f.records s calls old passes s' now fits sv
 
         left-sound : SoundAccount f.records s'

@@ -1,11 +1,11 @@
 -- What a list of calls over an image returns, every byte of the image that it leaves, and every place of the answers. Assumes nothing.
-use Rattle.std.specs.Prelude.{ℕ, Bool, true, cond, List, ◌≡◌, eqb, ℤ, length}
+use Rattle.std.specs.Prelude.{ℕ, Bool, true, cond, List, ◌≡◌, eqb, ℤ, length, Err}
 use Rattle.std.specs.Borrow.{MutBor}
 use Rattle.account_state.specs.Lent.{OfEleven, eleven}
 use Rattle.account_state.specs.declared.Account.{Account}
 use Rattle.account_state.specs.declared.Entered.{Entered}
 use Rattle.calls.specs.Calls.{is_accepted, signed_of}
-use Rattle.calls.specs.declared.Answer.TheVariants.{InvalidEntry}
+use Rattle.calls.specs.declared.MemoryError.TheVariants.{InvalidEntry}
 use Rattle.batch.specs.Lists.{list_served, answered}
 use Rattle.image_parts.specs.Layout.{Layout}
 use Rattle.image_writing.specs.Writing.{image_of}
@@ -26,7 +26,7 @@ finished f r l = returned (signed_of r.answer) (cond (is_accepted r.answer) (ima
 
 -- InvalidEntry, unless the image serves
 unfoldable pub over : Layout → Bool → Entered → List ℕ → Returned
-over f serves r l = cond serves (finished f r l) (returned (signed_of InvalidEntry) l)
+over f serves r l = cond serves (finished f r l) (returned (signed_of (Err InvalidEntry)) l)
 
 -- a list of calls, with so many places, on the account whose image this is
 unfoldable pub list_over_lem : Layout → List ℕ → ℕ → List ℕ → Returned

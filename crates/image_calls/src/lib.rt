@@ -6,12 +6,10 @@ ghost use Rattle.pool_state.specs.Lent.{was, is};
 ghost use Rattle.image_calls.specs.Lists.{BatchOver, HeldIn};
 
 use batch::{list_fits, serve_list_in};
-use calls::INVALID_ENTRY;
+use calls::{INVALID_ENTRY, INVALID_REQUEST};
 use image_reading::read_current;
 use image_writing::write_fields;
-use pool_state::{LISTS, NONE, POOL, RecordIndex};
-
-const INVALID_REQUEST: i64 = -4;
+use pool_state::{LISTS, POOL, RecordIndex, new};
 
 // The list, on the fields of the account whose image this is. Of the records, those that are in use or were are written.
 fn serve_held(
@@ -58,50 +56,41 @@ fn serve_held(
     INVALID_REQUEST
 }
 
-// The image is read and written once, whatever the length of the list; reading has checked the account. Eleven locals are the whole of it:
-// what reads, serves and writes it is lent them.
+// The image is read and written once, whatever the length of the list; reading has checked the account. What reads, serves and
+// writes it is lent its eleven fields.
 pub fn list_over(image: &mut [u8], calls: &[u64], answers: &mut [i64]) -> i64
     ensures { BatchOver current image.old calls.now answers.old result image.new answers.new }
 {
-    let mut lowest: u64 = 0;
-    let mut total: u64 = 0;
-    let mut first: u16 = NONE;
-    let mut heads = [NONE; LISTS];
-    let mut start = [0u64; POOL];
-    let mut end = [0u64; POOL];
-    let mut enabled = [false; POOL];
-    let mut previous = [NONE; POOL];
-    let mut next = [NONE; POOL];
-    let mut lprev = [NONE; POOL];
-    let mut lnext = [NONE; POOL];
+    let mut lowest = 0;
+    let mut ranges = new();
     let readable = read_current(
         &image[..],
         &mut lowest,
-        &mut total,
-        &mut first,
-        &mut heads,
-        &mut start,
-        &mut end,
-        &mut enabled,
-        &mut previous,
-        &mut next,
-        &mut lprev,
-        &mut lnext,
+        &mut ranges.free_size,
+        &mut ranges.first_entry.0,
+        &mut ranges.free_list,
+        &mut ranges.start,
+        &mut ranges.end,
+        &mut ranges.enabled,
+        &mut ranges.previous,
+        &mut ranges.next,
+        &mut ranges.list_prev,
+        &mut ranges.list_next,
     );
     if readable {
         return serve_held(
             image,
             &mut lowest,
-            &mut total,
-            &mut first,
-            &mut heads,
-            &mut start,
-            &mut end,
-            &mut enabled,
-            &mut previous,
-            &mut next,
-            &mut lprev,
-            &mut lnext,
+            &mut ranges.free_size,
+            &mut ranges.first_entry.0,
+            &mut ranges.free_list,
+            &mut ranges.start,
+            &mut ranges.end,
+            &mut ranges.enabled,
+            &mut ranges.previous,
+            &mut ranges.next,
+            &mut ranges.list_prev,
+            &mut ranges.list_next,
             calls,
             answers,
         );

@@ -1,12 +1,12 @@
 -- What follows for a layout whose fields can hold its own numbers, and which are such. Assumes nothing.
 use mathlib.Core.Bool.{Bool, true, false, cond}
-use mathlib.Core.Path.{◌≡◌, refl}
+use mathlib.Core.Path.{refl}
 use lib.Dec.{eqb}
-use Prim.Native.Nat.{ℕ, zero, suc, ◌+◌, ◌-◌, ◌*◌, ◌^◌, ◌<◌, ◌≤◌}
+use Prim.Native.Nat.{ℕ, zero, suc, ◌-◌, ◌^◌, ◌≤◌}
 use native.Mathlib.Nat.{one-le-pow}
 use native.Mathlib.Omega.{arith}
 use Rattle.linked_lists.specs.Links.{none}
-use Rattle.image_parts.specs.Layout.{Layout, version1, version2, current, layout_of, no_link, Lawful, Housed, Figured}
+use Rattle.image_parts.specs.Layout.{Layout, version1, version2, current, layout_of, Lawful, Housed, Figured}
 
 pub lawful-version1 : Lawful version1
 lawful-version1 = record { versions = omega arith; rests = omega arith; records = omega arith; links = omega arith; lows = omega arith; whole-low = λ d. absurd (d refl) }

@@ -1,6 +1,6 @@
 // Where each field stands in an image, and in a record's own bytes.
 ghost use Rattle.std.specs.Prelude.{◌≡◌};
-ghost use Rattle.image_parts.specs.Layout.{Lawful, version1, version2, current, layout_of, length_at, no_link, records_at_lem, record_size_lem, image_size_lem};
+ghost use Rattle.image_parts.specs.Layout.{Lawful, layout_of, length_at, no_link, records_at_lem, record_size_lem, image_size_lem};
 ghost use Rattle.image_parts.specs.Read.{number_in};
 
 use pool_state::{LISTS, POOL};
@@ -57,54 +57,37 @@ pub const REST: u64 = (IMAGE - TOTAL) as u64;
 // ---- the versions
 
 // Of before: 64 records, and a byte for a link.
-pub fn version_1() -> Layout
-    ensures { result ≡ version1 }
-{
-    Layout {
-        version: 1,
-        records: 64,
-        link: 1,
-        low: 0,
-    }
-}
+pub const VERSION_1: Layout = Layout {
+    version: 1,
+    records: 64,
+    link: 1,
+    low: 0,
+};
 
 // Of before: no low figure.
-pub fn version_2() -> Layout
-    ensures { result ≡ version2 }
-{
-    Layout {
-        version: 2,
-        records: POOL,
-        link: 2,
-        low: 0,
-    }
-}
+pub const VERSION_2: Layout = Layout {
+    version: 2,
+    records: POOL,
+    link: 2,
+    low: 0,
+};
 
-pub fn current_layout() -> Layout
-    ensures { result ≡ current }
-{
-    Layout {
-        version: VERSION,
-        records: POOL,
-        link: LINK,
-        low: LOW,
-    }
-}
+pub const CURRENT: Layout = Layout {
+    version: VERSION,
+    records: POOL,
+    link: LINK,
+    low: LOW,
+};
 
 // The layout that the first byte tells.
 pub fn layout_of(image: &[u8]) -> Layout
     ensures { result ≡ layout_of (number_in image.now 0 length_at) }
 {
-    if image.len() == 0 {
-        return current_layout();
+    match image.first().copied().unwrap_or(0) {
+        1 => VERSION_1,
+        2 => VERSION_2,
+        _ => CURRENT,
     }
-    if image[0] == 1 {
-        return version_1();
-    }
-    if image[0] == 2 {
-        return version_2();
-    }
-    current_layout()
 }
 
 // ---- the figures of any layout
@@ -114,13 +97,11 @@ pub fn no_link(form: Layout) -> u64
     requires { Lawful form }
     ensures { result ≡ no_link form }
 {
-    if form.link == 2 {
-        return 65535;
+    match form.link {
+        2 => 65535,
+        1 => 255,
+        _ => 0,
     }
-    if form.link == 1 {
-        return 255;
-    }
-    0
 }
 
 // Where the records begin.

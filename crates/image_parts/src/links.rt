@@ -11,11 +11,7 @@ use pool_state::{NONE, RecordIndex};
 pub fn link_number(r: RecordIndex) -> u64
     ensures { result ≡ link_number_lem current r.0 }
 {
-    let n = r.0;
-    if n < NO_LINK {
-        return n as u64;
-    }
-    NO_LINK as u64
+    u64::from(r.0.min(NO_LINK))
 }
 
 pub fn link_of(form: Layout, x: u64) -> RecordIndex
@@ -24,19 +20,18 @@ pub fn link_of(form: Layout, x: u64) -> RecordIndex
     ensures { result.0 ≡ link_of form x }
 {
     if x == no_link(form) {
-        return RecordIndex(NONE);
+        RecordIndex(NONE)
+    } else {
+        RecordIndex(x as u16)
     }
-    RecordIndex(x as u16)
 }
 
 pub fn write_links(part: &mut [u8], links: &[u16])
     requires { length part.old ≡ current.link * length links.now }
     ensures { part.new ≡ link_bytes current links.now }
 {
-    let mut k = 0;
-    while k < links.len() {
+    for (k, link) in links.iter().enumerate() {
         let at = LINK * k;
-        put_be(&mut part[at..at + LINK], link_number(RecordIndex(links[k])));
-        k += 1;
+        put_be(&mut part[at..at + LINK], link_number(RecordIndex(*link)));
     }
 }

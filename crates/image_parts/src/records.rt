@@ -22,7 +22,7 @@ pub struct MemoryEntry {
 pub fn flag_number(on: bool) -> u64
     ensures { result ≡ flag_number_lem on }
 {
-    if on { 1 } else { 0 }
+    u64::from(on)
 }
 
 pub fn write_record(part: &mut [u8], e: MemoryEntry)

@@ -8,7 +8,6 @@ use lib.ListN.{length}
 use Rattle.linked_lists.specs.Links.{none}
 use Rattle.rules_lowest.specs.Lowest.{low_sound}
 use Rattle.pool_state.specs.State.{state_of}
-use Rattle.pool_state.specs.Sound.{book_of}
 use Rattle.pool_state.specs.declared.MemoryAllocator.{MemoryAllocator}
 use Rattle.check_state.specs.IsSound as ranges
 use Rattle.account_state.specs.Account.{account}

@@ -94,10 +94,26 @@ module _ (n m : ℕ) (le : n ≤ m) (b : Book) (sound : Sound n b) where
         starts = record { sized = length-tab m 0 _; done = λ j h. at-tab 0 m _ j (omega arith) ∙ sym (at-tab 0 n _ j h); rest = λ j a h. (t.kept.clear j h (other j a h)).0 };
         ends = record { sized = length-tab m 0 _; done = λ j h. at-tab 0 m _ j (omega arith) ∙ sym (at-tab 0 n _ j h); rest = λ j a h. (t.kept.clear j h (other j a h)).1 };
         flags = record { sized = length-tab m 0 _; done = λ j h. at-tab false m _ j (omega arith) ∙ sym (at-tab false n _ j h); rest = λ j a h. t.kept.marked.off j h (other j a h) };
-        previouses = record { sized = length-tab m 0 _; done = λ j h. at-tab 0 m _ j (omega arith) ∙ sym (at-tab 0 n _ j h); rest = λ j a h. t.chained.threads.prevs j h ∙ before-none none j (numbers b.chain) (off-chain j a h) };
-        nexts = record { sized = length-tab m 0 _; done = λ j h. at-tab 0 m _ j (omega arith) ∙ sym (at-tab 0 n _ j h); rest = λ j a h. t.chained.threads.nexts j h ∙ after_none j (numbers b.chain) (off-chain j a h) };
-        lprevs = record { sized = length-tab m 0 _; done = λ j h. at-tab 0 m _ j (omega arith) ∙ sym (at-tab 0 n _ j h); rest = λ j a h. t.shelved.threads.prevs j h ∙ before-none none j (numbers (of_list (key j) b.shelf)) (off_list j a h (key j)) };
-        lnexts = record { sized = length-tab m 0 _; done = λ j h. at-tab 0 m _ j (omega arith) ∙ sym (at-tab 0 n _ j h); rest = λ j a h. t.shelved.threads.nexts j h ∙ after_none j (numbers (of_list (key j) b.shelf)) (off_list j a h (key j)) };
+        previouses = record {
+          sized = length-tab m 0 _;
+          done = λ j h. at-tab 0 m _ j (omega arith) ∙ sym (at-tab 0 n _ j h);
+          rest = λ j a h. t.chained.threads.prevs j h ∙ before-none none j (numbers b.chain) (off-chain j a h);
+        };
+        nexts = record {
+          sized = length-tab m 0 _;
+          done = λ j h. at-tab 0 m _ j (omega arith) ∙ sym (at-tab 0 n _ j h);
+          rest = λ j a h. t.chained.threads.nexts j h ∙ after_none j (numbers b.chain) (off-chain j a h);
+        };
+        lprevs = record {
+          sized = length-tab m 0 _;
+          done = λ j h. at-tab 0 m _ j (omega arith) ∙ sym (at-tab 0 n _ j h);
+          rest = λ j a h. t.shelved.threads.prevs j h ∙ before-none none j (numbers (of_list (key j) b.shelf)) (off_list j a h (key j));
+        };
+        lnexts = record {
+          sized = length-tab m 0 _;
+          done = λ j h. at-tab 0 m _ j (omega arith) ∙ sym (at-tab 0 n _ j h);
+          rest = λ j a h. t.shelved.threads.nexts j h ∙ after_none j (numbers (of_list (key j) b.shelf)) (off_list j a h (key j));
+        };
       }
 
 -- ---- one state grows to one, and one that has grown comes from one

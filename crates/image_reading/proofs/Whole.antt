@@ -3,7 +3,7 @@ use mathlib.Core.Path.{◌≡◌, refl, sym, ◌∙◌, ap}
 use mathlib.Core.Bool.{Bool, true, false, ◌&&◌}
 use mathlib.Core.List.{List}
 use mathlib.Core.Logic.{⊎_elim}
-use Prim.Native.Nat.{ℕ, zero, suc, ◌+◌, ◌*◌, ◌^◌, ◌≤◌, ◌<◌}
+use Prim.Native.Nat.{ℕ, zero, suc, ◌+◌, ◌*◌, ◌≤◌, ◌<◌}
 use native.Mathlib.Nat.{mul-add, mul-one, mul-le-mul_left}
 use native.Mathlib.Omega.{arith}
 use lib.Dec.{eqb}
@@ -119,7 +119,9 @@ module _ (f : Layout) (l : List ℕ) where
   -- ---- records that are in use or fresh
 
   flag_small : (a : ℕ) → plain_at f l a ≡ true → flag_at l a ≤ 1
-  flag_small a h = ⊎_elim (λ (e : flag_at l a ≡ 0). omega arith) (λ e. let k : flag_at l a ≡ 1 = eqb-true _ _ (both (eqb (flag_at l a) 1) _ (rw (ne_eqb (flag_at l a) 0 e) at h)).0 in omega arith) (same? (flag_at l a) 0)
+  flag_small a h =
+      ⊎_elim (λ (e : flag_at l a ≡ 0). omega arith)
+      (λ e. let k : flag_at l a ≡ 1 = eqb-true _ _ (both (eqb (flag_at l a) 1) _ (rw (ne_eqb (flag_at l a) 0 e) at h)).0 in omega arith) (same? (flag_at l a) 0)
 
   plain-bits : (m i : ℕ) → plain f l m i ≡ true → bits l (records_at_lem f + enabled_at) (record_size_lem f) m i ≡ true
   unfolding plain bits
@@ -168,7 +170,8 @@ module _ (f : Layout) (l : List ℕ) where
           let s = headed-sized framing.0 in
           let small = part-below l (here + links_at + w * k) w bytes (omega arith) in
           let m = lawful.links in
-          ⊎_elim (λ (x : link_number_in_lem f l (here + links_at) k ≡ no_link f). x) (λ x. let y : link_number_in_lem f l (here + links_at) k ≡ none = rw (ne_eqb (link_number_in_lem f l (here + links_at) k) (no_link f) x) at e in omega arith)
+          ⊎_elim (λ (x : link_number_in_lem f l (here + links_at) k ≡ no_link f). x)
+          (λ x. let y : link_number_in_lem f l (here + links_at) k ≡ none = rw (ne_eqb (link_number_in_lem f l (here + links_at) k) (no_link f) x) at e in omega arith)
           (same? (link_number_in_lem f l (here + links_at) k) (no_link f))
 
       fresh-bytes : flag_at l here ≡ 0 → fresh_at f l here ≡ true
@@ -194,7 +197,9 @@ module _ (f : Layout) (l : List ℕ) where
           rw (eq-eqb (flag_at l here) 1 on) (proper-true _ _ (omega arith) (omega arith))
 
       each-plain : true ≡ plain_at f l here
-      each-plain = ⊎_elim (λ (e : flag_at l here ≡ 0). plain-unused f l here true e (sym (fresh-bytes e))) (λ e. plain-used f l here true e (sym (used-bytes (let s = flag-bit in omega arith)))) (same? (flag_at l here) 0)
+      each-plain =
+          ⊎_elim (λ (e : flag_at l here ≡ 0). plain-unused f l here true e (sym (fresh-bytes e)))
+          (λ e. plain-used f l here true e (sym (used-bytes (let s = flag-bit in omega arith)))) (same? (flag_at l here) 0)
 
     ranges-plain : holds_ranges f l ≡ true → plain f l n 0 ≡ true
     unfolding plain

@@ -1,7 +1,7 @@
 -- The account in a list of bytes, and when they are the image of a sound one. Assumes nothing.
 use Rattle.std.specs.Prelude.{ℕ, ◌+◌, ◌*◌, Bool, true, cond, ◌&&◌, List, ◌≡◌, eqb, length}
 use Rattle.rules.specs.Rules.{size_lists, empty}
-use Rattle.pool_state.specs.Lent.{Lent, was, OfFields, fields, OfLent, turns}
+use Rattle.pool_state.specs.Lent.{OfFields, fields, OfLent, turns}
 use Rattle.pool_state.specs.Sound.{book_of}
 use Rattle.pool_state.specs.State.{arrays, state_of}
 use Rattle.pool_state.specs.declared.MemoryAllocator.{MemoryAllocator}

@@ -9,9 +9,8 @@ ghost use Rattle.image_reading.specs.Reading.{headed, FreshFields, ReadsTen, Rea
 
 use account_state::is_low_sound;
 use bytes_be::read_be;
-use check_records::Tally;
 use check_state::links_ok;
-use image_parts::layout::{FIRST, LENGTH, Layout, TOTAL, current_layout, image_size};
+use image_parts::layout::{CURRENT, FIRST, LENGTH, Layout, TOTAL, image_size};
 use image_records::numbers::{link_in, read_links, word_in};
 use image_records::records::read_records;
 use pool_state::{LISTS, POOL, RecordIndex};
@@ -64,10 +63,9 @@ fn read_ranges(
     ensures { ReadsTen pool form image.now result total first heads start end enabled previous next lprev lnext }
 {
     if is_headed(image, form) {
-        let tally = read_records(
+        let Some(count) = read_records(
             image, form, start, end, enabled, previous, next, lprev, lnext,
-        );
-        let Tally::Of(count) = tally else {
+        ) else {
             return false;
         };
         *total = word_in(image, TOTAL);
@@ -138,8 +136,8 @@ pub fn read_current(
     requires { FreshFields pool total first heads start end enabled previous next lprev lnext }
     ensures { ReadsCurrentFields current image.now result lowest total first heads start end enabled previous next lprev lnext }
 {
-    let form = current_layout();
     read_fields(
-        image, form, lowest, total, first, heads, start, end, enabled, previous, next, lprev, lnext,
+        image, CURRENT, lowest, total, first, heads, start, end, enabled, previous, next, lprev,
+        lnext,
     )
 }

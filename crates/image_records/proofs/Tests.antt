@@ -67,7 +67,8 @@ module _ (f : Layout) (l : List ℕ) (a : ℕ) where
     pub unlinked-word : (x : ℕ) → f.link ≡ 2 → x ≡ number_in l a word → eqb x 18446744073709551615 ≡ unlinked_at f l a
     unlinked-word x two ex =
         rw (ex, pairs, two, add-zero)
-        (four-pairs (number_in l a 2) (number_in l (a + 2) 2) (number_in l (a + 4) 2) (number_in l (a + 6) 2) (rw (← add-zero a) (small 0 (omega arith))) (small 2 (omega arith)) (small 4 (omega arith)) (small 6 (omega arith)))
+        (four-pairs (number_in l a 2) (number_in l (a + 2) 2) (number_in l (a + 4) 2) (number_in l (a + 6) 2)
+        (rw (← add-zero a) (small 0 (omega arith))) (small 2 (omega arith)) (small 4 (omega arith)) (small 6 (omega arith)))
 
   module _ (x : ℕ) (ex : x ≡ number_in l a word) where
     pub fresh_start : (x ≡ 0 → ⊥) → false ≡ fresh_at f l a

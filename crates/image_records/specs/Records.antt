@@ -1,11 +1,9 @@
 -- The records in a list of bytes, one by one: decoded and counted where they are in use, compared with the fresh one where they are not. Assumes nothing.
-use Rattle.std.specs.Prelude.{ℕ, zero, suc, ◌+◌, ◌*◌, ◌<◌, ◌≤◌, Bool, true, false, cond, ◌&&◌, List, ◌≡◌, eqb, length, get_or, replicate}
+use Rattle.std.specs.Prelude.{ℕ, zero, suc, ◌+◌, ◌*◌, ◌<◌, ◌≤◌, Bool, true, false, cond, ◌&&◌, List, ◌≡◌, eqb, length, get_or, replicate, Option, Some, None}
 use Rattle.std.specs.Borrow.{MutBor}
 use Rattle.linked_lists.specs.Links.{none}
-use Rattle.pool_state.specs.Lent.{Lent, was, is}
+use Rattle.pool_state.specs.Lent.{Lent, is}
 use Rattle.check_records.specs.Records.{proper, records}
-use Rattle.check_records.specs.declared.Tally.{Tally}
-use Rattle.check_records.specs.declared.Tally.TheVariants.{Of, Broken}
 use Rattle.image_parts.specs.Layout.{Layout, word, no_link, records_at_lem, end_at, enabled_at, links_at, record_size_lem, record_at}
 use Rattle.image_parts.specs.Read.{number_in, link_of}
 use Rattle.image_parts.specs.declared.records.MemoryEntry.{MemoryEntry}
@@ -94,9 +92,9 @@ pub record FreshRecords (n : ℕ) (start end : MutBor (List ℕ)) (enabled : Mut
   pub lprevs : lprev.now ≡ replicate n none
   pub lnexts : lnext.now ≡ replicate n none
 
--- r is broken where a record of the layout is neither used nor fresh; else the arrays of m become those in the bytes, filled up, and r counts those in use
-pub record ReadsRecords (m : ℕ) (f : Layout) (image : List ℕ) (r : Tally) (start end : Lent (List ℕ)) (enabled : Lent (List Bool)) (previous next lprev lnext : Lent (List ℕ)) : Type 0 where
-  pub broken : r ≡ Broken → plain f image f.records 0 ≡ false
-  pub plainly : (c : ℕ) → r ≡ Of c → plain f image f.records 0 ≡ true
-  pub read : (c : ℕ) → r ≡ Of c → RecordsIn m f.records f image (is start) (is end) (is enabled) (is previous) (is next) (is lprev) (is lnext)
-  pub counted : (c : ℕ) → r ≡ Of c → records m (is start) (is end) (is enabled) (is previous) (is next) (is lprev) (is lnext) ≡ Of c
+-- r is none where a record of the layout is neither used nor fresh; else the arrays of m become those in the bytes, filled up, and r counts those in use
+pub record ReadsRecords (m : ℕ) (f : Layout) (image : List ℕ) (r : Option ℕ) (start end : Lent (List ℕ)) (enabled : Lent (List Bool)) (previous next lprev lnext : Lent (List ℕ)) : Type 0 where
+  pub broken : r ≡ None → plain f image f.records 0 ≡ false
+  pub plainly : (c : ℕ) → r ≡ Some c → plain f image f.records 0 ≡ true
+  pub read : (c : ℕ) → r ≡ Some c → RecordsIn m f.records f image (is start) (is end) (is enabled) (is previous) (is next) (is lprev) (is lnext)
+  pub counted : (c : ℕ) → r ≡ Some c → records m (is start) (is end) (is enabled) (is previous) (is next) (is lprev) (is lnext) ≡ Some c

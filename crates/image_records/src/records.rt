@@ -5,7 +5,7 @@ ghost use Rattle.pool_state.specs.Shown.{pool};
 ghost use Rattle.image_records.specs.Records.{entry_in_lem, unlinked_at, fresh_at, FreshRecords, ReadsRecords};
 
 use crate::numbers::{link_in, link_number_in, word_in};
-use check_records::{Tally, is_proper};
+use check_records::is_proper;
 use image_parts::layout::{ENABLED, END, LINKS, Layout, no_link, record_size, records_at};
 use image_parts::records::MemoryEntry;
 use pool_state::{Address, POOL, RecordIndex};
@@ -72,7 +72,7 @@ pub fn read_records(
     next: &mut [u16; POOL],
     lprev: &mut [u16; POOL],
     lnext: &mut [u16; POOL],
-) -> Tally
+) -> Option<usize>
     requires housed { Housed form }
     requires image_len { length image.now ≡ image_size_lem form }
     requires fresh_records { FreshRecords pool start end enabled previous next lprev lnext }
@@ -89,10 +89,10 @@ pub fn read_records(
             if is_fresh(image, form, at) {
                 continue;
             }
-            return Tally::Broken;
+            return None;
         }
         if flag != 1 {
-            return Tally::Broken;
+            return None;
         }
         let e = record_in(image, form, at);
         if is_proper(e.start, e.end) {
@@ -106,7 +106,7 @@ pub fn read_records(
             used += 1;
             continue;
         }
-        return Tally::Broken;
+        return None;
     }
-    Tally::Of(used)
+    Some(used)
 }

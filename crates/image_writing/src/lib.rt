@@ -18,13 +18,7 @@ use pool_state::{Address, LISTS, POOL, RecordIndex};
 fn is_standing(anew: bool, on: bool, flag: u8) -> bool
     ensures { result ≡ not anew && (not on && not (eqb flag 1)) }
 {
-    if anew {
-        return false;
-    }
-    if on {
-        return false;
-    }
-    flag != 1
+    !anew && !on && flag != 1
 }
 
 // The records, each in its own part of the image.

@@ -3,23 +3,17 @@
 
 ghost use Rattle.std.specs.Prelude.{◌+◌, ◌≤◌, length};
 ghost use Rattle.pool_state.specs.Lent.{is};
+ghost use Rattle.streams.specs.Streams.{bytes_read};
 
-use image::ImageAnswer;
+use image::InvalidEntry;
 use image_parts::layout::IMAGE;
 use image_upgrade::upgrade_image;
-use streams::{Moved, Streams, read_some, write_all};
-
-// How many bytes of the buffer were read, and whether a read failed.
-#[derive(Clone, Copy)]
-pub struct Input {
-    pub held: usize,
-    pub failed: bool,
-}
+use streams::{Streams, Unread, read_some, write_all};
 
 // More of the input, behind what is held.
-fn read_more(mut streams: Streams, buf: &mut [u8], held: usize) -> Moved
+fn read_more(mut streams: Streams, buf: &mut [u8], held: usize) -> Result<usize, Unread>
     requires { held ≤ length buf.old }
-    ensures { held + result.bytes ≤ length (is buf) }
+    ensures { held + bytes_read result ≤ length (is buf) }
 {
     let end = buf.len();
     read_some(
@@ -30,47 +24,34 @@ fn read_more(mut streams: Streams, buf: &mut [u8], held: usize) -> Moved
     )
 }
 
-// The whole input, or as much of it as the buffer holds: that is more than any image has. A proved loop has to end: each turn reads a byte.
-fn read_input(streams: Streams, buf: &mut [u8]) -> Input
-    ensures { result.held ≤ length (is buf) }
+// How many bytes of the buffer are the input: the whole of it, or as much as the buffer holds, which is more than any image has.
+// A proved loop has to end: each turn reads a byte.
+fn read_input(streams: Streams, buf: &mut [u8]) -> Result<usize, Unread>
+    ensures { bytes_read result ≤ length (is buf) }
 {
     let mut held = 0;
-    let mut turns: u64 = 65536;
-    while turns > 0 {
-        let read = read_more(streams, buf, held);
-        if read.failed {
-            return Input {
-                held: 0,
-                failed: true,
-            };
+    for _ in 0..65536 {
+        let count = read_more(streams, buf, held)?;
+        if count == 0 {
+            return Ok(held);
         }
-        if read.bytes == 0 {
-            return Input {
-                held: held,
-                failed: false,
-            };
-        }
-        held += read.bytes;
-        turns -= 1;
+        held += count;
     }
-    Input {
-        held: held,
-        failed: false,
-    }
+    Ok(held)
 }
 
-fn put_answer(mut streams: Streams, answer: ImageAnswer, image: &[u8]) {
+fn put_answer(mut streams: Streams, answer: Result<(), InvalidEntry>, image: &[u8]) {
     match answer {
-        ImageAnswer::Done => {
-            let _written = write_all(
+        Ok(()) => {
+            let _ = write_all(
                 &mut streams.output,
                 &mut streams.errors,
                 image,
                 b"failed: the image cannot be written",
             );
         }
-        ImageAnswer::InvalidEntry => {
-            let _written = write_all(
+        Err(InvalidEntry) => {
+            let _ = write_all(
                 &mut streams.output,
                 &mut streams.errors,
                 b"no 2\n",
@@ -96,10 +77,7 @@ fn main(rt: HostRuntime) {
         errors: rt.stderr(),
     };
     let mut buf = [0u8; 65536];
-    let input = read_input(streams, &mut buf);
-    if input.failed {
-        return;
+    if let Ok(held) = read_input(streams, &mut buf) {
+        upgrade_held(streams, &buf, held);
     }
-    let held = input.held;
-    upgrade_held(streams, &buf, held);
 }

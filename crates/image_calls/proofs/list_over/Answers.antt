@@ -1,13 +1,11 @@
 use mathlib.Core.Path.{sym, ◌∙◌}
-use Rattle.pool_state.specs.Shown.{pool}
-use Rattle.pool_state.proofs.States.{fresh-state}
 use Rattle.image_parts.specs.Layout.{current}
 use Rattle.image_calls.proofs.Lists.{no-list}
 use Rattle.image_calls.proofs.list_over.Goals as goal
 
 pub read_current-readable-requires : goal.read_current-readable-requires
 read_current-readable-requires c =
-    fresh-state pool
+    c.new-ranges.ensures
 
 pub serve_held-requires : goal.serve_held-requires
 serve_held-requires c =

@@ -1,4 +1,4 @@
-use mathlib.Core.Path.{◌≡◌, sym, ap, ◌∙◌, subst}
+use mathlib.Core.Path.{◌≡◌, sym, ap, ◌∙◌}
 use mathlib.Core.Bool.{Bool}
 use mathlib.Core.List.{List}
 use Prim.Native.Nat.{ℕ}
@@ -7,25 +7,20 @@ use Rattle.pool_state.specs.Shown.{pool}
 use Rattle.pool_state.specs.declared.MemoryAllocator.{MemoryAllocator}
 use Rattle.account_state.specs.Account.{account}
 use Rattle.account_state.specs.declared.Account.{Account}
-use Rattle.image_parts.specs.Layout.{Layout, Housed, current}
+use Rattle.image_parts.specs.Layout.{current}
 use Rattle.image_parts.proofs.Lawful.{housed-current}
 use Rattle.image_reading.specs.Reading.{low_in_lem, ReadsAccount, ReadsCurrent}
 use Rattle.image_reading.proofs.Whole.{whole-state}
 use Rattle.image_reading.proofs.Figure.{readable-ranges}
 use Rattle.image_reading.proofs.read_current.Goals as goal
 
-pub current_layout-form-requires : goal.current_layout-form-requires
-current_layout-form-requires c =
-    tt
-
 pub read_fields-requires : goal.read_fields-requires
 read_fields-requires c =
-    record { housed = subst Housed (sym c.current_layout-form.ensures) housed-current; fresh_fields = c.requires }
+    record { housed = housed-current; fresh_fields = c.requires }
 
 -- what was read by the current layout
-by-current : (f : Layout) (l : List ℕ) (r : Bool) (a : Account) → f ≡ current → ReadsAccount pool f l r a → ReadsCurrent current l r a
-by-current f l r a e h =
-    let g = subst (λ (x : Layout). ReadsAccount pool x l r a) e h in
+by-current : (l : List ℕ) (r : Bool) (a : Account) → ReadsAccount pool current l r a → ReadsCurrent current l r a
+by-current l r a g =
     record {
       told = g.told;
       state = λ on. g.state on ∙ ap (λ (s : MemoryAllocator). account s (low_in_lem current l)) (whole-state current l (omega arith) (readable-ranges current l (sym g.told ∙ on)));
@@ -33,4 +28,4 @@ by-current f l r a e h =
 
 pub returns : goal.returns
 returns c =
-    by-current _ _ _ _ c.current_layout-form.ensures c.read_fields.ensures
+    by-current _ _ _ c.read_fields.ensures

@@ -14,7 +14,8 @@ pub returns-then-read_ranges : goal.returns-then-read_ranges
 returns-then-read_ranges c =
     let f = c.args.form in
     let told = c.read_ranges.ensures in
-    figure-decides f c.args.image.now (small-pool f c.requires.housed.lawful) (sym told.told ∙ c.if-read_ranges.true) pool _ (told.ranges c.if-read_ranges.true) _ c.low_in.ensures _ c.is_low_sound.ensures
+    figure-decides f c.args.image.now (small-pool f c.requires.housed.lawful) (sym told.told ∙ c.if-read_ranges.true) pool _
+    (told.ranges c.if-read_ranges.true) _ c.low_in.ensures _ c.is_low_sound.ensures
 
 pub returns : goal.returns
 returns c =

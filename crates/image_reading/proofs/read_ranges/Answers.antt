@@ -22,11 +22,11 @@ is_headed-requires c =
 sized : (c : Then-is_headed) → length c.args.image.now ≡ image_size_lem c.args.form
 sized c = headed-sized c.args.form _ (sym c.is_headed.ensures ∙ c.if-is_headed.true)
 
-pub read_records-tally-requires : goal.read_records-tally-requires
-read_records-tally-requires c =
+pub read_records-requires : goal.read_records-requires
+read_records-requires c =
     let fresh = emptied pool _ c.requires.fresh_fields in record {
       housed = c.requires.housed;
-      image_len = sized (goal.at.read_records-tally-requires c).Then-is_headed;
+      image_len = sized (goal.at.read_records-requires c).Then-is_headed;
       fresh_records = record {
         starts = fresh.start;
         ends = fresh.end;
@@ -41,7 +41,7 @@ read_records-tally-requires c =
 pub returns-in_default : goal.returns-in_default
 returns-in_default c =
     record {
-      told = not_plain c.args.form _ c.requires.housed.lawful (λ i b. (c.type_inv.image i).fits) (c.read_records-tally.ensures.broken c.in_default.is);
+      told = not_plain c.args.form _ c.requires.housed.lawful (λ i b. (c.type_inv.image i).fits) (c.read_records.ensures.broken c.in_default.is);
       ranges = λ e. true≢false (sym e);
     }
 
@@ -74,15 +74,15 @@ read_links-requires c =
 
 pub links_ok-requires : goal.links_ok-requires
 links_ok-requires c =
-    c.read_records-tally.ensures.counted _ c.in-Of.is
+    c.read_records.ensures.counted _ c.in-Some.is
 
 pub returns-then-is_headed : goal.returns-then-is_headed
 returns-then-is_headed c =
     let f = c.args.form in
     let l = c.args.image.now in
     let count = ap length (emptied pool _ c.requires.fresh_fields).heads in
-    let told = c.read_records-tally.ensures in
-    let of = c.in-Of.is in
+    let told = c.read_records.ensures in
+    let of = c.in-Some.is in
     let e₃ = c.read_links.ensures ∙ ap (λ (m : ℕ). links_in f l (heads_at f) f.link m) count in
     let same = state-grows pool f l _ _ _ _ _ _ _ _ _ _ c.word_in.ensures (c.link_in.ensures ∙ first-link f l) e₃ (told.read _ of) in
     let decided = check-decides f l pool c.requires.housed.room (omega arith) _ same (sym c.is_headed.ensures ∙ c.if-is_headed.true) (told.plainly _ of) _ c.links_ok.ensures in

@@ -1,6 +1,4 @@
 use Rattle.linked_lists.proofs.Laws.{true≢false}
-use Rattle.pool_state.specs.Shown.{pool}
-use Rattle.pool_state.proofs.States.{fresh-state}
 use Rattle.image.proofs.Ways.{housed-told, by-told}
 use Rattle.image_upgrade.proofs.Ways.{another-length, no-image, written-anew}
 use Rattle.image_upgrade.proofs.upgrade_image.Goals as goal
@@ -17,7 +15,7 @@ pub read_fields-requires : goal.read_fields-requires
 read_fields-requires c =
     let told = c in
     let start = told in
-    record { housed = housed-told _ start.args.old.now told.layout_of-form.ensures; fresh_fields = fresh-state pool }
+    record { housed = housed-told _ start.args.old.now told.layout_of-form.ensures; fresh_fields = c.new-ranges.ensures }
 
 pub write_fields-requires : goal.write_fields-requires
 write_fields-requires c =

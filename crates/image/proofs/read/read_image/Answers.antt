@@ -1,6 +1,4 @@
 use mathlib.Core.Path.{◌∙◌}
-use Rattle.pool_state.specs.Shown.{pool}
-use Rattle.pool_state.proofs.States.{fresh-state}
 use Rattle.image.proofs.Ways.{housed-told, by-told, any-unread, any-read}
 use Rattle.image.proofs.read.read_image.Goals as goal
 
@@ -11,7 +9,7 @@ layout_of-form-requires c =
 pub read_fields-requires : goal.read_fields-requires
 read_fields-requires c =
     let told = c in
-    record { housed = housed-told _ told.args.image.now told.layout_of-form.ensures; fresh_fields = fresh-state pool }
+    record { housed = housed-told _ told.args.image.now told.layout_of-form.ensures; fresh_fields = c.new-ranges.ensures }
 
 pub returns-then-read_fields : goal.returns-then-read_fields
 returns-then-read_fields c =

@@ -1,4 +1,3 @@
-use Prim.Native.Nat.{◌-◌}
 use mathlib.Core.List.{[]}
 use lib.ListN.{length, get_or}
 use Rattle.bytes_be.specs.Numbers.{be}
@@ -10,7 +9,3 @@ use Rattle.image_parts.proofs.links.write_links.Given as goal
 abbrev pub invariant-loop-k : goal.invariant-loop-k
 invariant-loop-k l =
     Laying (λ j. be current.link (link_number_lem current (get_or l.links j 0))) 0 current.link (length l.links) l.k [] l.part
-
-abbrev pub decreases-loop-k : goal.decreases-loop-k
-decreases-loop-k l =
-    length l.links - l.k

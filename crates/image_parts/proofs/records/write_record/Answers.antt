@@ -7,10 +7,6 @@ use Rattle.image_parts.specs.Written.{record_bytes}
 use Rattle.image_parts.proofs.Parts.{begin, put-number, put_last}
 use Rattle.image_parts.proofs.records.write_record.Goals as goal
 
-pub flag_number-requires : goal.flag_number-requires
-flag_number-requires c =
-    tt
-
 pub put_be-requires : goal.put_be-requires
 put_be-requires c =
     tt

@@ -1,9 +1,7 @@
-use Prim.Native.Nat.{◌-◌}
 use mathlib.Core.Path.{refl}
 use native.Mathlib.Omega.{arith}
 use Rattle.image_parts.specs.Read.{links_in}
 use Rattle.image_parts.proofs.Loops.{fill_start, fill-next, fill_end}
-use Rattle.image_records.specs.Records.{link_in}
 use Rattle.image_records.proofs.numbers.read_links.Goals as goal
 
 pub loop-k-init : goal.loop-k-init

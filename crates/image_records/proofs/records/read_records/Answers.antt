@@ -1,4 +1,4 @@
-use Prim.Native.Nat.{ℕ, ◌-◌}
+use Prim.Native.Nat.{ℕ}
 use mathlib.Core.Bool.{true, false}
 use mathlib.Core.Path.{◌≡◌, sym, ◌∙◌, ap}
 use native.Mathlib.Nat.{sub-zero}
@@ -8,7 +8,7 @@ use Rattle.image_parts.specs.Layout.{record_at}
 use Rattle.image_records.specs.Records.{entry_in_lem, fresh_at, flag_at, plain}
 use Rattle.image_records.proofs.Rooms.{Place, place}
 use Rattle.image_records.proofs.Decoding.{decode-start, decode-put, decode-pass, decode-end, plain-unused, plain-used, plain-neither, used-told, plain-next, plain-stop, plain_end}
-use Rattle.image_records.proofs.Tallied.{tallied-start, tallied-most, tallied-end, tallied-put, broken-of}
+use Rattle.image_records.proofs.Tallied.{tallied-start, tallied-most, tallied-end, tallied-put, none-some}
 use Rattle.image_records.proofs.records.read_records.Goals.{In-loop-i}
 use Rattle.image_records.proofs.records.read_records.Goals as goal
 
@@ -85,7 +85,7 @@ returns-then-flag-eq0 c =
     let off = ap (λ (a : ℕ). flag_at image a) (sym here) ∙ zero.if-flag-eq0.true in
     let stale = ap (fresh_at f image) (sym here) ∙ sym compared.is_fresh.ensures ∙ c.if-is_fresh.false in
     let stopped = sym l.invariant.0 ∙ (plain-stop f image f.records l.i (omega arith) (plain-unused f image (record_at f l.i) false off (sym stale))) in
-    record { broken = λ e. stopped; plainly = λ k e. absurd (broken-of k e); read = λ k e. absurd (broken-of k e); counted = λ k e. absurd (broken-of k e) }
+    record { broken = λ e. stopped; plainly = λ k e. absurd (none-some k e); read = λ k e. absurd (none-some k e); counted = λ k e. absurd (none-some k e) }
 
 pub returns-then-flag-ne1 : goal.returns-then-flag-ne1
 returns-then-flag-ne1 c =
@@ -96,8 +96,9 @@ returns-then-flag-ne1 c =
     let f = start.args.form in
     let image = start.args.image.now in
     let flag = ap (λ (a : ℕ). flag_at image a) (turn (goal.at.returns-then-flag-ne1 head).In-loop-i).here in
-    let stopped = sym l.invariant.0 ∙ plain-stop f image f.records l.i (omega arith) (plain-neither f image (record_at f l.i) (λ e. some.if-flag-eq0.false (flag ∙ e)) (λ e. c.if-flag-ne1.true (flag ∙ e))) in
-    record { broken = λ e. stopped; plainly = λ k e. absurd (broken-of k e); read = λ k e. absurd (broken-of k e); counted = λ k e. absurd (broken-of k e) }
+    let stopped = sym l.invariant.0 ∙ plain-stop f image f.records l.i (omega arith)
+    (plain-neither f image (record_at f l.i) (λ e. some.if-flag-eq0.false (flag ∙ e)) (λ e. c.if-flag-ne1.true (flag ∙ e))) in
+    record { broken = λ e. stopped; plainly = λ k e. absurd (none-some k e); read = λ k e. absurd (none-some k e); counted = λ k e. absurd (none-some k e) }
 
 pub record_in-e-requires : goal.record_in-e-requires
 record_in-e-requires c =
@@ -201,8 +202,9 @@ returns-in-loop-i c =
     let image = start.args.image.now in
     let here = (turn (goal.at.returns-in-loop-i head).In-loop-i).here in
     let told = used-told f image _ (record_at f l.i) _ asked.is_proper.result one.if-flag-ne1.false asked.is_proper.ensures decoded.record_in-e.ensures here in
-    let stopped = sym l.invariant.0 ∙ plain-stop f image f.records l.i (omega arith) (plain-used f image (record_at f l.i) false (λ z. some.if-flag-eq0.false (ap (λ (a : ℕ). flag_at image a) here ∙ z)) (sym c.if-is_proper.false ∙ told)) in
-    record { broken = λ e. stopped; plainly = λ k e. absurd (broken-of k e); read = λ k e. absurd (broken-of k e); counted = λ k e. absurd (broken-of k e) }
+    let stopped = sym l.invariant.0 ∙ plain-stop f image f.records l.i (omega arith)
+    (plain-used f image (record_at f l.i) false (λ z. some.if-flag-eq0.false (ap (λ (a : ℕ). flag_at image a) here ∙ z)) (sym c.if-is_proper.false ∙ told)) in
+    record { broken = λ e. stopped; plainly = λ k e. absurd (none-some k e); read = λ k e. absurd (none-some k e); counted = λ k e. absurd (none-some k e) }
 
 pub returns : goal.returns
 returns c =
@@ -212,7 +214,7 @@ returns c =
     let image = start.args.image.now in
     let all : l.i ≡ f.records = omega (arith, l.invariant.1) in
     record {
-      broken = λ e. absurd (broken-of _ (sym e));
+      broken = λ e. absurd (none-some _ (sym e));
       plainly = λ k e. sym l.invariant.0 ∙ plain_end f image f.records l.i (omega arith);
       read = λ k e. decode-end f image pool _ _ _ _ _ _ _ l.i f.records all l.invariant.2;
       counted = λ k e. tallied-end pool _ _ _ _ _ _ _ _ l.invariant.3 ∙ e;
