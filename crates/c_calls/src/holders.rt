@@ -8,6 +8,7 @@ ghost use Rattle.holder_rules.specs.Register.{entries, blanks};
 ghost use Rattle.holder_rules.specs.Holders.{Offer, By};
 ghost use Rattle.holder_calls.specs.Calls.{new_over, call_over_lem};
 
+use crate::BEGUN;
 use account_state::NEVER;
 use calls::INVALID_ENTRY;
 use holder_calls::serve_over;
@@ -19,9 +20,6 @@ use holder_serve::HolderRequest;
 use image_writing::write_fields;
 use memory_allocator::Request;
 use pool_state::{Address, LISTS, NONE, POOL, RecordIndex};
-
-// What the call that begins an image answers.
-const BEGUN: i64 = 0;
 
 // A register with no entry used.
 fn no_entries() -> Register

@@ -4,7 +4,7 @@ ghost use Rattle.std.specs.Prelude.{◌≡◌};
 ghost use Rattle.c_over.specs.CCalls.{returned, upgrade_over};
 
 use calls::INVALID_ENTRY;
-use image::ImageAnswer;
+use image::InvalidEntry;
 use image_upgrade::upgrade_image;
 
 // What an upgrade answers that was made.
@@ -15,7 +15,7 @@ pub fn cinghjalofa_upgrade(old: &[u8], image: &mut [u8]) -> i64
     ensures { returned result image.new ≡ upgrade_over old.now image.old }
 {
     match upgrade_image(old, image) {
-        ImageAnswer::Done => UPGRADED,
-        ImageAnswer::InvalidEntry => INVALID_ENTRY,
+        Ok(()) => UPGRADED,
+        Err(InvalidEntry) => INVALID_ENTRY,
     }
 }

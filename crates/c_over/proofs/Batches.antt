@@ -10,9 +10,10 @@ use lib.ListN.{length, get_or}
 use lib.Dec.{eqb}
 use lib.Signed.{lt_z}
 use borrow.Author.Tests.{eqb-true}
+use Rattle.std.specs.Prelude.{Err, Some}
 use Rattle.image.specs.Reading.{reading_of}
 use Rattle.bytes_be.specs.Numbers.{Bytes}
-use Rattle.calls.specs.declared.Answer.TheVariants.{InvalidEntry}
+use Rattle.calls.specs.declared.MemoryError.TheVariants.{InvalidEntry}
 use Rattle.account_state.proofs.Exact.{sound-passes}
 use Rattle.linked_lists.proofs.Laws.{true≢false}
 use Rattle.linked_lists.specs.Links.{none}
@@ -29,7 +30,6 @@ use Rattle.account_calls.specs.Engine.{accounts}
 use Rattle.batch.specs.InWords.{asked, words_of_lem}
 use Rattle.batch.specs.Lists.{fitted, list_served}
 use Rattle.batch.specs.Histories.{Batch, calls_in, vouchers_in, after_lists, vouchers_of_lists, account_door, front, rest, CutAt}
-use Rattle.batch.specs.declared.Asked.TheVariants.{Is}
 use Rattle.batch.proofs.Histories.{Faithful, of-lists, lowest-of-lists, made-sound, list_left, list-kept, list-sound}
 use Rattle.batch.proofs.Cuts.{Fits, single-left, single-answer, cut, asked-one, one-fits}
 use Rattle.pool_listing.specs.Listing.{written}
@@ -72,7 +72,7 @@ module _ (f : Layout) (full : Figured f) (l : List ℕ) where
     list-answers = rw (read_same f full s h)
 
     -- A list of one call answers and leaves what that call does, to the byte.
-    module _ (fits : Fits b) (q : Request) (e : asked b.words ≡ Is q ∷ []) where
+    module _ (fits : Fits b) (q : Request) (e : asked b.words ≡ Some q ∷ []) where
       pub single-bytes : (image_door f l).next b (image_of f s) ≡ (call_over_lem f (call_of q) (image_of f s)).bytes
       single-bytes = list-bytes ∙ ap (image_of f) (single-left n small s h b fits q e) ∙ sym (call-bytes f full s h (call_of q))
 
@@ -159,7 +159,7 @@ module _ (f : Layout) (full : Figured f) (l : List ℕ) (bytes : Bytes l) (q : R
   one = record { words = words_of_lem q; places = pos 0 ∷ [] }
 
   abbrev refused : Returned
-  refused = returned (signed_of InvalidEntry) l
+  refused = returned (signed_of (Err InvalidEntry)) l
 
   -- bytes that do not serve
   not_listed : eqb (reading_of f l).number 0 ≡ false → returned r l' ≡ refused

@@ -5,10 +5,10 @@ use mathlib.Core.List.{List}
 use mathlib.Core.Logic.{◌≢◌}
 use mathlib.Core.Path.{◌≡◌, refl, sym}
 use lib.ListN.{length}
+use Rattle.std.specs.Prelude.{Ok, Err}
 use Rattle.rules.specs.Rules.{Call}
-use Rattle.calls.specs.Calls.{is_accepted, signed_of, number_from}
-use Rattle.calls.specs.declared.Answer.{Answer}
-use Rattle.calls.specs.declared.Answer.TheVariants.{Accepted, NoEntry, InvalidEntry, NoMemory, InvalidRequest}
+use Rattle.calls.specs.Calls.{Answer, is_accepted, signed_of, number_from}
+use Rattle.calls.specs.declared.MemoryError.TheVariants.{NoEntry, InvalidEntry, NoMemory, InvalidRequest}
 use Rattle.account_state.specs.declared.Entered.{Entered}
 use Rattle.bytes_be.specs.Numbers.{Bytes}
 use Rattle.image_parts.specs.Layout.{Layout, Lawful, image_size_lem}
@@ -28,11 +28,11 @@ module _ (f : Layout) (l : List ℕ) where
   finished-unchanged r = go r.answer
     where
       go : (k : Answer) → number_from (signed_of k) ≢ 0 → cond (is_accepted k) (image_of f r.state) l ≡ l
-      go (Accepted a) d = absurd (d refl)
-      go NoEntry d = refl
-      go InvalidEntry d = refl
-      go NoMemory d = refl
-      go InvalidRequest d = refl
+      go (Ok a) d = absurd (d refl)
+      go (Err NoEntry) d = refl
+      go (Err InvalidEntry) d = refl
+      go (Err NoMemory) d = refl
+      go (Err InvalidRequest) d = refl
 
   over-unchanged : (serves : Bool) (r : Entered) → Unchanged (over f serves r l)
   unfolding over
@@ -50,14 +50,14 @@ module _ (f : Layout) (l : List ℕ) where
   new-unchanged = over-unchanged _ _
 
   -- A slice of another length is -2, before all else:
-  pub wrong-length : (c : Call) → length l ≢ image_size_lem f → call_over_lem f c l ≡ returned (signed_of InvalidEntry) l
+  pub wrong-length : (c : Call) → length l ≢ image_size_lem f → call_over_lem f c l ≡ returned (signed_of (Err InvalidEntry)) l
   unfolding call_over_lem over
   wrong-length c h = rw (← unframed f l false (framed-not f l h) refl)
 
-  pub new-wrong-length : length l ≢ image_size_lem f → new_over f l ≡ returned (signed_of InvalidEntry) l
+  pub new-wrong-length : length l ≢ image_size_lem f → new_over f l ≡ returned (signed_of (Err InvalidEntry)) l
   new-wrong-length h = sym (no_room f l h)
 
   -- and so are bytes that no sound account writes.
-  pub no-image : Lawful f → Bytes l → (Image f l → ⊥) → (c : Call) → call_over_lem f c l ≡ returned (signed_of InvalidEntry) l
+  pub no-image : Lawful f → Bytes l → (Image f l → ⊥) → (c : Call) → call_over_lem f c l ≡ returned (signed_of (Err InvalidEntry)) l
   unfolding call_over_lem over
   no-image lawful bytes none-writes c = rw ((refused-exactly f lawful l bytes).1 none-writes)

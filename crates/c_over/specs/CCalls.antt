@@ -1,8 +1,8 @@
 -- What each C call returns, and every byte of the image that it leaves, for every image and all numbers. Assumes nothing.
-use Rattle.std.specs.Prelude.{ℕ, cond, List, eqb, pos, length}
+use Rattle.std.specs.Prelude.{ℕ, cond, List, eqb, pos, length, Ok, Err}
 use Rattle.rules.specs.Rules.{Call, Free, Allocate, Reserve}
 use Rattle.calls.specs.Calls.{signed_of}
-use Rattle.calls.specs.declared.Answer.TheVariants.{Accepted, InvalidEntry}
+use Rattle.calls.specs.declared.MemoryError.TheVariants.{InvalidEntry}
 use Rattle.account_state.specs.Account.{opened}
 use Rattle.account_state.specs.declared.Entered.{Entered}
 use Rattle.account_calls.specs.Made.{made}
@@ -39,7 +39,7 @@ free_pages_over f a c l = pages_over f (FreePages a c) l
 
 -- the outcome of `new`
 abbrev pub begun : Layout → Entered
-begun f = record { answer = Accepted (record { 0 = 0 }); state = opened f.records }
+begun f = record { answer = Ok (record { 0 = 0 }); state = opened f.records }
 
 -- whatever is there serves, if it has the length
 unfoldable pub new_over : Layout → List ℕ → Returned
@@ -47,4 +47,4 @@ new_over f l = over f (eqb (length l) (image_size_lem f)) (begun f) l
 
 -- the old bytes, of any version, as the current image; else the slice is as it was
 unfoldable pub upgrade_over : List ℕ → List ℕ → Returned
-upgrade_over old l = cond (upgrades old l) (returned (pos 0) (image_of current (reading_any old).state)) (returned (signed_of InvalidEntry) l)
+upgrade_over old l = cond (upgrades old l) (returned (pos 0) (image_of current (reading_any old).state)) (returned (signed_of (Err InvalidEntry)) l)

@@ -2,10 +2,12 @@
 use Prim.Native.Nat.{ℕ, ◌≤◌}
 use mathlib.Core.Bool.{Bool, true, false, cond}
 use mathlib.Core.List.{List}
+use Rattle.std.specs.Prelude.{Option, None, Some}
 use mathlib.Core.Path.{◌≡◌, refl, sym, ap, ◌∙◌, subst}
 use lib.IntN.{ℤ, pos}
 use lib.ListN.{length}
 use native.Mathlib.Omega.{arith}
+use Rattle.std.specs.Prelude.{Err}
 use Rattle.linked_lists.specs.Links.{none}
 use Rattle.rules.specs.Rules.{Range}
 use Rattle.pool_state.specs.Sound.{book_of}
@@ -20,13 +22,10 @@ use Rattle.check_meaning.specs.Paragraph.{Sized}
 use Rattle.pool_chain.specs.Chain.{Ordered}
 use Rattle.pool_listing.specs.Listing as in_place
 use Rattle.pool_listing.specs.Listing.{listed_of}
-use Rattle.pool_listing.specs.declared.Listed.{Listed}
-use Rattle.pool_listing.specs.declared.Listed.TheVariants.{Count, Short}
 use Rattle.pool_listing.proofs.Walk.{few}
-use Rattle.calls.specs.Calls.{signed_of}
-use Rattle.calls.specs.declared.Answer.TheVariants.{InvalidEntry}
-use Rattle.calls.specs.declared.Counted.{Counted}
-use Rattle.core_accounts.specs.Accounts.{refused, listed_answer, listing_of, shown_of}
+use Rattle.calls.specs.Calls.{Counted, signed_of}
+use Rattle.calls.specs.declared.MemoryError.TheVariants.{InvalidEntry}
+use Rattle.core_accounts.specs.Accounts.{refused, value_of, listed_answer, listing_of, shown_of}
 use Rattle.core_accounts.proofs.Shows.{ordered}
 use Rattle.image_parts.specs.Layout.{Layout, Lawful}
 use Rattle.image_parts.proofs.Lawful.{small-pool}
@@ -57,13 +56,13 @@ module _ (n : ℕ) (small : n ≤ none) (a : Account) where
   pub lowest-here : is_sound_lem n a ≡ true → (old : ℕ) → Figures (lowest_of n a) old (pos 0) a.lowest
   lowest-here on old = let e = lowest-sound n a on in record { number = rw (← e); figure = rw (← e) }
 
-  pub no-total : is_sound_lem n a ≡ false → (old : ℕ) → Figures (total_of n a) old (signed_of InvalidEntry) old
+  pub no-total : is_sound_lem n a ≡ false → (old : ℕ) → Figures (total_of n a) old (signed_of (Err InvalidEntry)) old
   no-total off old = let e = total-unsound n a off in record { number = rw (← e); figure = rw (← e) }
 
-  pub no-lowest : is_sound_lem n a ≡ false → (old : ℕ) → Figures (lowest_of n a) old (signed_of InvalidEntry) old
+  pub no-lowest : is_sound_lem n a ≡ false → (old : ℕ) → Figures (lowest_of n a) old (signed_of (Err InvalidEntry)) old
   no-lowest off old = let e = lowest-unsound n a off in record { number = rw (← e); figure = rw (← e) }
 
-  pub no-lists : is_sound_lem n a ≡ false → (starts lasts : List ℕ) → Lists n a starts lasts (signed_of InvalidEntry) starts lasts
+  pub no-lists : is_sound_lem n a ≡ false → (starts lasts : List ℕ) → Lists n a starts lasts (signed_of (Err InvalidEntry)) starts lasts
   unfolding listed_here_lem sliced_here
   no-lists off starts lasts = record { number = rw off; starts-now = rw off; lasts_now = rw off }
 
@@ -74,11 +73,11 @@ copied-sized n s t e h = subst (Sized n) e h
 -- ---- of an image
 
 module _ (f : Layout) (l : List ℕ) where
-  pub unreadable-total : readable f l ≡ false → (show : Account → Counted) (old : ℕ) → Figures (shown_by f l show) old (signed_of InvalidEntry) old
+  pub unreadable-total : readable f l ≡ false → (show : Account → Counted) (old : ℕ) → Figures (shown_by f l show) old (signed_of (Err InvalidEntry)) old
   unfolding shown_by
   unreadable-total off show old = let e = unread f l false (sym off) refl in record { number = rw (← e); figure = rw (← e) }
 
-  pub unreadable-lists : readable f l ≡ false → (starts lasts : List ℕ) → ListsBy f l starts lasts (signed_of InvalidEntry) starts lasts
+  pub unreadable-lists : readable f l ≡ false → (starts lasts : List ℕ) → ListsBy f l starts lasts (signed_of (Err InvalidEntry)) starts lasts
   unfolding shown_by sliced_by
   unreadable-lists off starts lasts = let e = unread f l false (sym off) refl in record { number = rw (← e); starts-now = rw (← e); lasts_now = rw (← e) }
 
@@ -118,16 +117,16 @@ module _ (f : Layout) (l : List ℕ) where
 
 -- ---- of ranges
 
-pub lists-chain : (c : List Range) (starts lasts starts' lasts' : List ℕ) (k u : Listed) → in_place.Lists c starts lasts k starts' lasts' → k ≡ u → (r : ℤ) → r ≡ signed_count (listed_answer u) → ListsChain c starts lasts r starts' lasts'
-lists-chain c starts lasts starts' lasts' k u h e r is = record { number = is ∙ ap (λ (x : Listed). signed_count (listed_answer x)) (sym e ∙ h.answer); starts-now = h.starts-now; lasts_now = h.lasts_now }
+pub lists-chain : (c : List Range) (starts lasts starts' lasts' : List ℕ) (k u : Option ℕ) → in_place.Lists c starts lasts k starts' lasts' → k ≡ u → (r : ℤ) → r ≡ signed_count (listed_answer u) → ListsChain c starts lasts r starts' lasts'
+lists-chain c starts lasts starts' lasts' k u h e r is = record { number = is ∙ ap (λ (x : Option ℕ). signed_count (listed_answer x)) (sym e ∙ h.answer); starts-now = h.starts-now; lasts_now = h.lasts_now }
 
 -- a count is that of the ranges, which are no more than the records
-pub counted-few : (n : ℕ) (c : List Range) (start end next : List ℕ) (first : ℕ) → Ordered n c start end next first → (starts lasts starts' lasts' : List ℕ) (k : Listed) → in_place.Lists c starts lasts k starts' lasts'
-    → (count : ℕ) → k ≡ Count count → count ≤ n
+pub counted-few : (n : ℕ) (c : List Range) (start end next : List ℕ) (first : ℕ) → Ordered n c start end next first → (starts lasts starts' lasts' : List ℕ) (k : Option ℕ) → in_place.Lists c starts lasts k starts' lasts'
+    → (count : ℕ) → k ≡ Some count → count ≤ n
 unfolding listed_of
 counted-few n c start end next first o starts lasts starts' lasts' k h count e =
-    go (in_place.short c (length starts) (length lasts)) (ap (λ (x : Listed). (listed_answer x).value) (sym e ∙ h.answer)) (few n c o.runs.listed)
+    go (in_place.short c (length starts) (length lasts)) (ap (λ (x : Option ℕ). value_of (listed_answer x)) (sym e ∙ h.answer)) (few n c o.runs.listed)
   where
-    go : (t : Bool) → count ≡ (listed_answer (cond t Short (Count (length c)))).value → length c ≤ n → count ≤ n
+    go : (t : Bool) → count ≡ value_of (listed_answer (cond t None (Some (length c)))) → length c ≤ n → count ≤ n
     go true q l = omega arith
     go false q l = omega arith

@@ -4,10 +4,9 @@ use Rattle.rules.specs.Rules.{Range, start_of}
 use Rattle.account_state.specs.Account.{is_sound_lem}
 use Rattle.account_state.specs.declared.Account.{Account}
 use Rattle.pool_listing.specs.Listing.{last_of, listed_of, shown}
-use Rattle.calls.specs.Calls.{is_accepted, signed_of}
-use Rattle.calls.specs.declared.Answer.TheVariants.{InvalidEntry}
-use Rattle.calls.specs.declared.Counted.{Counted}
-use Rattle.core_accounts.specs.Accounts.{refused, listed_answer, listing_of, shown_of}
+use Rattle.calls.specs.Calls.{Counted, is_accepted, signed_of}
+use Rattle.calls.specs.declared.MemoryError.TheVariants.{InvalidEntry}
+use Rattle.core_accounts.specs.Accounts.{refused, answer_in, value_of, listed_answer, listing_of, shown_of}
 use Rattle.image_parts.specs.Layout.{Layout}
 use Rattle.image.specs.Reading.{reading_of}
 
@@ -19,13 +18,13 @@ shown_by f l show = cond (eqb (reading_of f l).number 0) (show (reading_of f l).
 
 -- after a refusal the place holds what it held
 pub record Figures (k : Counted) (old : ℕ) (r : ℤ) (now : ℕ) : Type 0 where
-  pub number : r ≡ signed_of k.answer
-  pub figure : now ≡ cond (is_accepted k.answer) k.value old
+  pub number : r ≡ signed_of (answer_in k)
+  pub figure : now ≡ cond (is_accepted (answer_in k)) (value_of k) old
 
 -- ---- a listing: the number of ranges is returned, or minus the number of the refusal
 
 abbrev pub signed_count : Counted → ℤ
-signed_count k = cond (is_accepted k.answer) (pos k.value) (signed_of k.answer)
+signed_count k = cond (is_accepted (answer_in k)) (pos (value_of k)) (signed_of (answer_in k))
 
 -- the listing of a sound account is that of its ranges; an unsound one is refused, and a slice is then as it was
 unfoldable pub listed_here_lem : ℕ → Account → ℕ → ℕ → Counted

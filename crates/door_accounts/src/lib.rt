@@ -10,7 +10,7 @@ ghost use Rattle.door_accounts.specs.Accounts.{shown_by, Figures, ListsBy};
 use calls::INVALID_ENTRY;
 use image_reading::read_current;
 use listed::list_signed;
-use pool_state::{LISTS, NONE, POOL, RecordIndex};
+use pool_state::new;
 
 mod fields;
 mod listed;
@@ -20,33 +20,24 @@ pub mod own;
 pub fn cinghjalofa_total(image: &[u8], figure: &mut u64) -> i64
     ensures { Figures (shown_by current image.now (total_of pool)) (was figure) result (is figure) }
 {
-    let mut lowest: u64 = 0;
-    let mut total: u64 = 0;
-    let mut first: u16 = NONE;
-    let mut heads = [NONE; LISTS];
-    let mut start = [0u64; POOL];
-    let mut end = [0u64; POOL];
-    let mut enabled = [false; POOL];
-    let mut previous = [NONE; POOL];
-    let mut next = [NONE; POOL];
-    let mut lprev = [NONE; POOL];
-    let mut lnext = [NONE; POOL];
+    let mut lowest = 0;
+    let mut ranges = new();
     let readable = read_current(
         image,
         &mut lowest,
-        &mut total,
-        &mut first,
-        &mut heads,
-        &mut start,
-        &mut end,
-        &mut enabled,
-        &mut previous,
-        &mut next,
-        &mut lprev,
-        &mut lnext,
+        &mut ranges.free_size,
+        &mut ranges.first_entry.0,
+        &mut ranges.free_list,
+        &mut ranges.start,
+        &mut ranges.end,
+        &mut ranges.enabled,
+        &mut ranges.previous,
+        &mut ranges.next,
+        &mut ranges.list_prev,
+        &mut ranges.list_next,
     );
     if readable {
-        *figure = total;
+        *figure = ranges.free_size;
         return 0;
     }
     INVALID_ENTRY
@@ -56,30 +47,21 @@ pub fn cinghjalofa_total(image: &[u8], figure: &mut u64) -> i64
 pub fn cinghjalofa_lowest(image: &[u8], figure: &mut u64) -> i64
     ensures { Figures (shown_by current image.now (lowest_of pool)) (was figure) result (is figure) }
 {
-    let mut lowest: u64 = 0;
-    let mut total: u64 = 0;
-    let mut first: u16 = NONE;
-    let mut heads = [NONE; LISTS];
-    let mut start = [0u64; POOL];
-    let mut end = [0u64; POOL];
-    let mut enabled = [false; POOL];
-    let mut previous = [NONE; POOL];
-    let mut next = [NONE; POOL];
-    let mut lprev = [NONE; POOL];
-    let mut lnext = [NONE; POOL];
+    let mut lowest = 0;
+    let mut ranges = new();
     let serves = read_current(
         image,
         &mut lowest,
-        &mut total,
-        &mut first,
-        &mut heads,
-        &mut start,
-        &mut end,
-        &mut enabled,
-        &mut previous,
-        &mut next,
-        &mut lprev,
-        &mut lnext,
+        &mut ranges.free_size,
+        &mut ranges.first_entry.0,
+        &mut ranges.free_list,
+        &mut ranges.start,
+        &mut ranges.end,
+        &mut ranges.enabled,
+        &mut ranges.previous,
+        &mut ranges.next,
+        &mut ranges.list_prev,
+        &mut ranges.list_next,
     );
     if serves {
         *figure = lowest;
@@ -92,33 +74,31 @@ pub fn cinghjalofa_lowest(image: &[u8], figure: &mut u64) -> i64
 pub fn cinghjalofa_listing(image: &[u8], starts: &mut [u64], lasts: &mut [u64]) -> i64
     ensures { ListsBy current image.now (was starts) (was lasts) result (is starts) (is lasts) }
 {
-    let mut lowest: u64 = 0;
-    let mut total: u64 = 0;
-    let mut first: u16 = NONE;
-    let mut heads = [NONE; LISTS];
-    let mut start = [0u64; POOL];
-    let mut end = [0u64; POOL];
-    let mut enabled = [false; POOL];
-    let mut previous = [NONE; POOL];
-    let mut next = [NONE; POOL];
-    let mut lprev = [NONE; POOL];
-    let mut lnext = [NONE; POOL];
+    let mut lowest = 0;
+    let mut ranges = new();
     let is_image = read_current(
         image,
         &mut lowest,
-        &mut total,
-        &mut first,
-        &mut heads,
-        &mut start,
-        &mut end,
-        &mut enabled,
-        &mut previous,
-        &mut next,
-        &mut lprev,
-        &mut lnext,
+        &mut ranges.free_size,
+        &mut ranges.first_entry.0,
+        &mut ranges.free_list,
+        &mut ranges.start,
+        &mut ranges.end,
+        &mut ranges.enabled,
+        &mut ranges.previous,
+        &mut ranges.next,
+        &mut ranges.list_prev,
+        &mut ranges.list_next,
     );
     if is_image {
-        return list_signed(&start, &end, &next, RecordIndex(first), starts, lasts);
+        return list_signed(
+            &ranges.start,
+            &ranges.end,
+            &ranges.next,
+            ranges.first_entry,
+            starts,
+            lasts,
+        );
     }
     INVALID_ENTRY
 }

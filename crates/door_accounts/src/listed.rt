@@ -6,10 +6,9 @@ ghost use Rattle.pool_state.specs.Shown.{pool};
 ghost use Rattle.pool_chain.specs.Chain.{Ordered};
 ghost use Rattle.door_accounts.specs.Accounts.{ListsChain};
 
-use pool_listing::{Listed, list_in};
+use calls::INVALID_REQUEST;
+use pool_listing::list_in;
 use pool_state::{POOL, RecordIndex};
-
-const INVALID_REQUEST: i64 = -4;
 
 pub fn list_signed(
     start: &[u64; POOL],
@@ -23,7 +22,7 @@ pub fn list_signed(
     ensures { (c : List Range) → Ordered pool c start.now end.now next.now first.0 → ListsChain c (was starts) (was lasts) result (is starts) (is lasts) }
 {
     match list_in(start, end, next, first, starts, lasts) {
-        Listed::Count(count) => count as i64,
-        Listed::Short => INVALID_REQUEST,
+        Some(count) => count as i64,
+        None => INVALID_REQUEST,
     }
 }

@@ -7,11 +7,12 @@ use lib.Dec.{eqb}
 use lib.IntN.{ℤ}
 use lib.ListN.{length}
 use borrow.Author.Tests.{eqb-true}
+use Rattle.std.specs.Prelude.{Ok, Err}
 use Rattle.linked_lists.specs.Links.{none}
 use Rattle.account_state.specs.Account.{SoundAccount}
 use Rattle.account_state.specs.declared.Account.{Account}
 use Rattle.account_state.specs.declared.Entered.{Entered}
-use Rattle.calls.specs.declared.Answer.TheVariants.{Accepted, InvalidEntry}
+use Rattle.calls.specs.declared.MemoryError.TheVariants.{InvalidEntry}
 use Rattle.batch.specs.Lists.{list_served}
 use Rattle.batch.proofs.Histories.{list-sound}
 use Rattle.account_state.proofs.Exact.{sound-sized}
@@ -44,7 +45,7 @@ module _ (f : Layout) (full : Figured f) (l : List ℕ) (bytes : Bytes l) where
   import-keeps s s' r h j = go (eqb (reading_of f l).number 0) refl j.state
     where
       go : (t : Bool) → eqb (reading_of f l).number 0 ≡ t
-          → s' ≡ (cond {A = Entered} t (record { answer = Accepted (record { 0 = 0 }); state = (reading_of f l).state }) (record { answer = InvalidEntry; state = s })).state
+          → s' ≡ (cond {A = Entered} t (record { answer = Ok (record { 0 = 0 }); state = (reading_of f l).state }) (record { answer = Err InvalidEntry; state = s })).state
           → SoundAccount f.records s'
       go true e is = subst (SoundAccount f.records) (sym is) (read-sound (eqb-true _ _ e))
       go false e is = subst (SoundAccount f.records) (sym is) h

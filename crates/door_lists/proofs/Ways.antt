@@ -5,6 +5,7 @@ use mathlib.Core.List.{List}
 use mathlib.Core.Path.{◌≡◌, refl, sym, ap, ◌∙◌}
 use lib.IntN.{ℤ, pos, neg_ℤ}
 use lib.ListN.{length}
+use Rattle.std.specs.Prelude.{Err}
 use Rattle.linked_lists.specs.Links.{none}
 use Rattle.account_state.specs.Account.{SoundAccount, is_sound_lem}
 use Rattle.account_state.specs.declared.Account.{Account}
@@ -12,15 +13,14 @@ use Rattle.account_state.specs.declared.Entered.{Entered}
 use Rattle.account_state.proofs.Exact.{passes-sound}
 use Rattle.check_records.proofs.Tests.{and-true}
 use Rattle.calls.specs.Calls.{signed_of}
-use Rattle.calls.specs.declared.Answer.TheVariants.{InvalidEntry, InvalidRequest}
+use Rattle.calls.specs.declared.MemoryError.TheVariants.{InvalidEntry, InvalidRequest}
 use Rattle.batch.specs.Lists.{fitted, Served, Serves}
 use Rattle.batch.proofs.Ways.{unsound, unfitted, done}
 use Rattle.door_fields.specs.Fields.{is_sized_lem, sound_here}
 use Rattle.door_fields.proofs.Sized.{passes-sized}
 use Rattle.image_parts.specs.Layout.{Layout}
 use Rattle.image_reading.specs.Reading.{account_in, readable}
-use Rattle.image.specs.Writing.{number_of, Written, written, writing_of}
-use Rattle.image.specs.declared.ImageAnswer.{ImageAnswer}
+use Rattle.image.specs.Writing.{number_of, Written, written, writing_of, ImageAnswer}
 use Rattle.image.proofs.Ways.{unread, read_whole}
 use Rattle.door_lists.specs.Lists.{listed_here_lem, answered_here, Lists, imported, Imports, Exports}
 
@@ -37,19 +37,19 @@ module _ (n : ℕ) (s : Account) (l : List ℕ) (old : List ℤ) where
   listed z w now h =
       record { number = rw z (ap (λ (o : Entered). signed_of o.answer) h.outcome); state = rw z (ap (λ (o : Entered). o.state) h.outcome); answers = rw z h.answers }
 
-  not_listed : is_sized_lem n s.ranges ≡ false → Lists n s l old (signed_of InvalidEntry) s old
+  not_listed : is_sized_lem n s.ranges ≡ false → Lists n s l old (signed_of (Err InvalidEntry)) s old
   unfolding listed_here_lem answered_here
   not_listed e = record { number = rw e; state = rw e; answers = rw e }
 
-  pub list-unsound : sound_here n s ≡ false → Lists n s l old (signed_of InvalidEntry) s old
+  pub list-unsound : sound_here n s ≡ false → Lists n s l old (signed_of (Err InvalidEntry)) s old
   list-unsound h = go (is_sized_lem n s.ranges) refl
     where
-      go : (t : Bool) → is_sized_lem n s.ranges ≡ t → Lists n s l old (signed_of InvalidEntry) s old
+      go : (t : Bool) → is_sized_lem n s.ranges ≡ t → Lists n s l old (signed_of (Err InvalidEntry)) s old
       go true e = listed e _ old (unsound n s l old (sym (ap (λ (t : Bool). t && is_sound_lem n s) e) ∙ h))
       go false e = not_listed e
 
   module _ (on : sound_here n s ≡ true) where
-    pub list-unfitted : fitted l (length old) ≡ false → Lists n s l old (signed_of InvalidRequest) s old
+    pub list-unfitted : fitted l (length old) ≡ false → Lists n s l old (signed_of (Err InvalidRequest)) s old
     list-unfitted off = let w = and-true _ _ on in listed w.0 _ old (unfitted n s l old w.1 off)
 
     pub list_done : fitted l (length old) ≡ true → (s' : Account) (now : List ℤ) → Served n s l old s' now → Lists n s l old (pos 0) s' now
@@ -62,7 +62,7 @@ module _ (f : Layout) (l : List ℕ) (s : Account) where
   unfolding imported
   import-done on s' is = let e = read_whole f l true (sym on) refl (account_in f l) refl in record { number = rw (← e); state = rw (← e) is }
 
-  pub import-refused : readable f l ≡ false → Imports f l (signed_of InvalidEntry) s s
+  pub import-refused : readable f l ≡ false → Imports f l (signed_of (Err InvalidEntry)) s s
   unfolding imported
   import-refused off = let e = unread f l false (sym off) refl in record { number = rw (← e); state = rw (← e) }
 

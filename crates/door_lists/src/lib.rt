@@ -13,14 +13,12 @@ ghost use Rattle.account_state.specs.Lent.{turns_eleven};
 ghost use Rattle.door_lists.specs.Lists.{Lists, Imports, Exports};
 
 use batch::{list_fits, serve_list_in};
-use calls::INVALID_ENTRY;
+use calls::{INVALID_ENTRY, INVALID_REQUEST};
 use door_fields::{clear, is_sound_account, is_sound_lent};
 use image_parts::layout::IMAGE;
 use image_reading::read_current;
 use image_writing::write_fields;
-use pool_state::{LISTS, NONE, POOL, RecordIndex};
-
-const INVALID_REQUEST: i64 = -4;
+use pool_state::{LISTS, POOL, RecordIndex, new};
 
 // A list of calls, four words each, whose signed answers go into the places of `answers`; 0 where the list was served.
 pub fn cinghjalofa_fields_batch(
@@ -55,34 +53,25 @@ pub fn cinghjalofa_fields_batch(
     INVALID_ENTRY
 }
 
-// Whether the bytes are the image of a sound account: read into eleven fields that are given up again.
+// Whether the bytes are the image of a sound account: read into a state that is given up again.
 fn is_image(image: &[u8]) -> bool
     ensures { result ≡ readable current image.now }
 {
-    let mut lowest: u64 = 0;
-    let mut total: u64 = 0;
-    let mut first: u16 = NONE;
-    let mut heads = [NONE; LISTS];
-    let mut start = [0u64; POOL];
-    let mut end = [0u64; POOL];
-    let mut enabled = [false; POOL];
-    let mut previous = [NONE; POOL];
-    let mut next = [NONE; POOL];
-    let mut lprev = [NONE; POOL];
-    let mut lnext = [NONE; POOL];
+    let mut lowest = 0;
+    let mut ranges = new();
     read_current(
         image,
         &mut lowest,
-        &mut total,
-        &mut first,
-        &mut heads,
-        &mut start,
-        &mut end,
-        &mut enabled,
-        &mut previous,
-        &mut next,
-        &mut lprev,
-        &mut lnext,
+        &mut ranges.free_size,
+        &mut ranges.first_entry.0,
+        &mut ranges.free_list,
+        &mut ranges.start,
+        &mut ranges.end,
+        &mut ranges.enabled,
+        &mut ranges.previous,
+        &mut ranges.next,
+        &mut ranges.list_prev,
+        &mut ranges.list_next,
     )
 }
 
@@ -103,8 +92,7 @@ pub fn cinghjalofa_fields_import(
 ) -> i64
     ensures { turns_eleven (λ a a'. Imports current image.now result a a') lowest total first heads start end enabled previous next lprev lnext }
 {
-    let readable = is_image(image);
-    if readable {
+    if is_image(image) {
         clear(
             lowest, total, first, heads, start, end, enabled, previous, next, lprev, lnext,
         );

@@ -12,8 +12,7 @@ use Rattle.account_state.specs.declared.Account.{Account}
 use Rattle.account_state.specs.declared.Entered.{Entered}
 use Rattle.account_state.proofs.Exact.{sound-sized}
 use Rattle.account_calls.proofs.Steps.{sound-held}
-use Rattle.batch.specs.InWords.{rule_of}
-use Rattle.batch.specs.declared.Asked.{Asked}
+use Rattle.batch.specs.InWords.{rule_of, Asked}
 use Rattle.batch.proofs.Histories.{served-sound}
 use Rattle.door_own.specs.Own.{Judged}
 use Rattle.door_own.proofs.Own.{same-judged}

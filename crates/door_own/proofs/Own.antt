@@ -3,6 +3,7 @@ use Prim.Native.Nat.{ℕ, ◌<◌, ◌≤◌}
 use mathlib.Core.Bool.{Bool, true, false, ◌&&◌}
 use mathlib.Core.Path.{◌≡◌, refl, sym, ap, subst, ◌∙◌}
 use lib.IntN.{ℤ}
+use Rattle.std.specs.Prelude.{Err}
 use Rattle.linked_lists.specs.Links.{none}
 use Rattle.rules.specs.Rules.{top, Book}
 use Rattle.rules.specs.Rules as rules
@@ -16,14 +17,12 @@ use Rattle.account_state.specs.Account.{account, SoundAccount, is_sound_lem}
 use Rattle.account_state.specs.declared.Account.{Account}
 use Rattle.account_state.specs.declared.Entered.{Entered}
 use Rattle.account_state.proofs.Exact.{sound-sized, passes-sound}
-use Rattle.calls.specs.Calls.{address_of, number_of, signed_of}
+use Rattle.calls.specs.Calls.{Answer, address_of, number_of, signed_of}
 use Rattle.calls.specs.Answers.{Answers}
-use Rattle.calls.specs.declared.Answer.{Answer}
-use Rattle.calls.specs.declared.Answer.TheVariants.{InvalidEntry}
+use Rattle.calls.specs.declared.MemoryError.TheVariants.{InvalidEntry}
 use Rattle.account_calls.specs.Made.{judged}
 use Rattle.account_calls.proofs.Judged.{sound-judged, unsound-judged}
-use Rattle.batch.specs.InWords.{rule_of}
-use Rattle.batch.specs.declared.Asked.{Asked}
+use Rattle.batch.specs.InWords.{rule_of, Asked}
 use Rattle.batch.proofs.Going.{rule-below}
 use Rattle.check_records.proofs.Tests.{and-true}
 use Rattle.door_fields.specs.Fields.{is_sized_lem, sound_here}
@@ -38,17 +37,17 @@ module _ (n : ℕ) (small : n ≤ none) (a : Account) (rule : Book → rules.Ans
   unfolding judged_here
   same-judged z = rw (sized-passes n a.ranges z)
 
-  pub not-judged : is_sized_lem n a.ranges ≡ false → judged_here n rule a ≡ record { answer = InvalidEntry; state = a }
+  pub not-judged : is_sized_lem n a.ranges ≡ false → judged_here n rule a ≡ record { answer = Err InvalidEntry; state = a }
   unfolding judged_here
   not-judged e = rw e
 
   judged-by : (w : Entered) → w ≡ judged_here n rule a → (r : ℤ) → r ≡ signed_of w.answer → Judged n rule r a w.state
   judged-by w e r is = record { number = is ∙ ap (λ (x : Entered). signed_of x.answer) e; state = ap (λ (x : Entered). x.state) e }
 
-  pub unsound-here : sound_here n a ≡ false → Judged n rule (signed_of InvalidEntry) a a
-  unsound-here h = judged-by (record { answer = InvalidEntry; state = a }) (go (is_sized_lem n a.ranges) refl) _ refl
+  pub unsound-here : sound_here n a ≡ false → Judged n rule (signed_of (Err InvalidEntry)) a a
+  unsound-here h = judged-by (record { answer = Err InvalidEntry; state = a }) (go (is_sized_lem n a.ranges) refl) _ refl
     where
-      go : (t : Bool) → is_sized_lem n a.ranges ≡ t → record { answer = InvalidEntry; state = a } ≡ judged_here n rule a
+      go : (t : Bool) → is_sized_lem n a.ranges ≡ t → record { answer = Err InvalidEntry; state = a } ≡ judged_here n rule a
       go true e = unsound-judged n a rule (sym (ap (λ (t : Bool). t && is_sound_lem n a) e) ∙ h) ∙ sym (same-judged (passes-sized n a.ranges e))
       go false e = sym (not-judged e)
 

@@ -1,9 +1,9 @@
 -- What the calls on a state of one's own answer and leave, for all fields and all numbers. n is the number of records. Assumes nothing.
-use Rattle.std.specs.Prelude.{ℕ, cond, ◌≡◌, ℤ}
+use Rattle.std.specs.Prelude.{ℕ, cond, ◌≡◌, ℤ, Err}
 use Rattle.rules.specs.Rules as rules
 use Rattle.rules.specs.Rules.{Book}
 use Rattle.calls.specs.Calls.{signed_of}
-use Rattle.calls.specs.declared.Answer.TheVariants.{InvalidEntry}
+use Rattle.calls.specs.declared.MemoryError.TheVariants.{InvalidEntry}
 use Rattle.account_state.specs.Lent.{OfLentEleven, turns_eleven}
 use Rattle.account_state.specs.declared.Account.{Account}
 use Rattle.account_state.specs.declared.Entered.{Entered}
@@ -12,7 +12,7 @@ use Rattle.door_fields.specs.Fields.{is_sized_lem}
 
 -- what the call answers and leaves is what the call on an account by value does (`Made.antt` of account_calls)
 unfoldable pub judged_here : ℕ → (Book → rules.Answer) → Account → Entered
-judged_here n rule a = cond (is_sized_lem n a.ranges) (judged n rule a) (record { answer = InvalidEntry; state = a })
+judged_here n rule a = cond (is_sized_lem n a.ranges) (judged n rule a) (record { answer = Err InvalidEntry; state = a })
 
 -- r is the signed number of its answer, and the lent fields hold the account
 pub record Judged (n : ℕ) (rule : Book → rules.Answer) (r : ℤ) (a a' : Account) : Type 0 where

@@ -1,8 +1,6 @@
 use mathlib.Core.Path.{sym, ◌∙◌}
 use mir.Syntax.{w64}
 use mir.Facts.{to_z-of_z}
-use Rattle.pool_state.specs.Shown.{pool}
-use Rattle.pool_state.proofs.States.{fresh-state}
 use Rattle.image_parts.specs.Layout.{current}
 use Rattle.image_parts.proofs.Lawful.{lawful-current}
 use Rattle.door_accounts.proofs.Ways.{unreadable-lists, ordered-in, lists-in}
@@ -10,7 +8,7 @@ use Rattle.door_accounts.proofs.cinghjalofa_listing.Goals as goal
 
 pub read_current-is_image-requires : goal.read_current-is_image-requires
 read_current-is_image-requires c =
-    fresh-state pool
+    c.new-ranges.ensures
 
 pub list_signed-requires : goal.list_signed-requires
 list_signed-requires c =

@@ -1,6 +1,5 @@
 use mathlib.Core.Path.{sym, ◌∙◌}
 use Rattle.pool_state.specs.Shown.{pool}
-use Rattle.pool_state.proofs.States.{fresh-state}
 use Rattle.account_calls.specs.Accounts.{lowest_of}
 use Rattle.image_parts.specs.Layout.{current}
 use Rattle.image_parts.proofs.Lawful.{lawful-current}
@@ -9,7 +8,7 @@ use Rattle.door_accounts.proofs.cinghjalofa_lowest.Goals as goal
 
 pub read_current-serves-requires : goal.read_current-serves-requires
 read_current-serves-requires c =
-    fresh-state pool
+    c.new-ranges.ensures
 
 pub returns-then-serves : goal.returns-then-serves
 returns-then-serves c =

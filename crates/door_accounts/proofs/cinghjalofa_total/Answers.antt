@@ -1,6 +1,5 @@
 use mathlib.Core.Path.{sym, ◌∙◌}
 use Rattle.pool_state.specs.Shown.{pool}
-use Rattle.pool_state.proofs.States.{fresh-state}
 use Rattle.account_calls.specs.Accounts.{total_of}
 use Rattle.image_parts.specs.Layout.{current}
 use Rattle.image_parts.proofs.Lawful.{lawful-current}
@@ -9,7 +8,7 @@ use Rattle.door_accounts.proofs.cinghjalofa_total.Goals as goal
 
 pub read_current-readable-requires : goal.read_current-readable-requires
 read_current-readable-requires c =
-    fresh-state pool
+    c.new-ranges.ensures
 
 pub returns-then-readable : goal.returns-then-readable
 returns-then-readable c =

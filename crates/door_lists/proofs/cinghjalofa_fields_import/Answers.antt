@@ -9,14 +9,14 @@ read_current-again-requires c =
     let cleared = c in
     ap (λ (a : Account). a.ranges) cleared.clear.ensures
 
-pub returns-then-readable : goal.returns-then-readable
-returns-then-readable c =
+pub returns-then-is_image : goal.returns-then-is_image
+returns-then-is_image c =
     let cleared = c in
     let here = cleared in
-    let on = sym here.is_image-readable.ensures ∙ here.if-readable.true in
+    let on = sym here.is_image.ensures ∙ here.if-is_image.true in
     let read = c.read_current-again.ensures in
     import-done current _ _ on _ (read.state (read.told ∙ on))
 
 pub returns : goal.returns
 returns c =
-    import-refused current _ _ (sym c.is_image-readable.ensures ∙ c.if-readable.false)
+    import-refused current _ _ (sym c.is_image.ensures ∙ c.if-is_image.false)

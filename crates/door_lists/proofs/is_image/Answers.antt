@@ -1,10 +1,8 @@
-use Rattle.pool_state.specs.Shown.{pool}
-use Rattle.pool_state.proofs.States.{fresh-state}
 use Rattle.door_lists.proofs.is_image.Goals as goal
 
 pub read_current-requires : goal.read_current-requires
 read_current-requires c =
-    fresh-state pool
+    c.new-ranges.ensures
 
 pub returns : goal.returns
 returns c =
