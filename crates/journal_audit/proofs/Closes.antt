@@ -4,9 +4,8 @@ use Prim.Native.Nat.{ℕ, ◌≤◌, ◌<◌}
 use mathlib.Core.Bool.{Bool, false}
 use mathlib.Core.List.{List, [], ◌∷◌, map}
 use mathlib.Core.Path.{◌≡◌, refl, sym, ap, ◌∙◌, subst}
-use lib.Dec.{lit<}
-use lib.IntN.{ℤ}
 use borrow.Author.Tests.{lt-ltb}
+use Rattle.std.specs.Prelude.{Ok, Err}
 use Rattle.linked_lists.specs.Links.{none}
 use Rattle.rules.specs.Rules.{top, Book, empty, total, free_at, Call, Voucher, voucher, step, last_covering, said, count}
 use Rattle.rules.specs.Sound.{Sound}
@@ -17,16 +16,14 @@ use Rattle.rules_engine.specs.Engine.{rules, after, vouchers}
 use Rattle.rules_engine.specs.Demand.{Demand}
 use Rattle.rules_engine.proofs.Obeys.{Obeys}
 use Rattle.rules_engine.proofs.Demand as engine
-use Rattle.calls.specs.Calls.{call_of, address_of, answer_of, signed_of, voucher_from}
-use Rattle.calls.specs.declared.Answer.{Answer}
-use Rattle.calls.specs.declared.Answer.TheVariants.{Accepted, NoEntry, InvalidEntry, NoMemory, InvalidRequest}
+use Rattle.calls.specs.Calls.{Answer, call_of, address_of, answer_of, signed_of, voucher_from}
+use Rattle.calls.specs.declared.MemoryError.TheVariants.{NoEntry, InvalidEntry, NoMemory, InvalidRequest}
 use Rattle.calls.specs.declared.Request.{Request}
 use Rattle.calls.proofs.Below.{step-below}
 use Rattle.calls.proofs.Numbers.{signed-voucher, numbered}
 use Rattle.bytes_be.specs.Numbers.{Bytes}
 use Rattle.journal_blocks.specs.Bits.{bits_of, signed_from}
-use Rattle.journal_blocks.specs.Journal.{entry, read_all, Contents}
-use Rattle.journal_blocks.specs.declared.Entry.{Entry}
+use Rattle.journal_blocks.specs.Journal.{entry, Contents}
 use Rattle.journal_blocks.proofs.Rounds.{read-written}
 use Rattle.journal_audit.specs.Audit.{answer_bits_lem, replayed, audit_of}
 use Rattle.journal_audit.specs.Vouchers.{voucher_in, vouchers_in, recorded, left_by}
@@ -35,11 +32,11 @@ use Rattle.journal_audit.proofs.Exact.{answered-below, Agreeing, agrees-only}
 
 -- the bits of an answer are those of its signed number alone
 signed_back : (k : Answer) → address_of k < top → signed_from (bits_of (signed_of k)) ≡ signed_of k
-signed_back (Accepted a) h = rw (lt-ltb a.0 top h)
-signed_back NoEntry h = refl
-signed_back InvalidEntry h = refl
-signed_back NoMemory h = refl
-signed_back InvalidRequest h = refl
+signed_back (Ok a) h = rw (lt-ltb a.0 top h)
+signed_back (Err NoEntry) h = refl
+signed_back (Err InvalidEntry) h = refl
+signed_back (Err NoMemory) h = refl
+signed_back (Err InvalidRequest) h = refl
 
 module _ (n : ℕ) where
   -- the voucher of a call that was made by the rules

@@ -8,9 +8,10 @@ use lib.ListN.{length, drop}
 use lib.Seq.{drop-length}
 use native.Mathlib.Omega.{arith}
 use borrow.Author.Tests.{eqb-true, eq-eqb}
+use Rattle.std.specs.Prelude.{Ok, Err}
 use Rattle.linked_lists.specs.Links.{none}
 use Rattle.linked_lists.proofs.Laws.{true≢false}
-use Rattle.rules.specs.Rules.{top, Book, empty, total, step}
+use Rattle.rules.specs.Rules.{top, Book, empty, total}
 use Rattle.rules.specs.Sound.{Sound}
 use Rattle.rules_laws.proofs.Lists.{if}
 use Rattle.rules_laws.proofs.Kept.{empty-sound}
@@ -18,15 +19,13 @@ use Rattle.rules_laws.proofs.Steps.{step-sound}
 use Rattle.pool_state.specs.State.{state_of}
 use Rattle.pool_state.specs.declared.MemoryAllocator.{MemoryAllocator}
 use Rattle.pool_state.proofs.Book.{book-back}
-use Rattle.calls.specs.Calls.{call_of, address_of, answer_of, signed_of}
-use Rattle.calls.specs.declared.Answer.{Answer}
-use Rattle.calls.specs.declared.Answer.TheVariants.{Accepted, NoEntry, InvalidEntry, NoMemory, InvalidRequest}
+use Rattle.calls.specs.Calls.{Answer, call_of, address_of, answer_of, signed_of}
+use Rattle.calls.specs.declared.MemoryError.TheVariants.{NoEntry, InvalidEntry, NoMemory, InvalidRequest}
 use Rattle.calls.specs.declared.Request.{Request}
 use Rattle.calls.proofs.Below.{step-below}
 use Rattle.bytes_be.specs.Numbers.{Bytes}
-use Rattle.journal_blocks.specs.Bits.{bits_of, signed_from}
-use Rattle.journal_blocks.specs.Journal.{version, entry, block_bytes, blocks_bytes, journal_bytes, versioned, block_at, Fit, AllFit}
-use Rattle.journal_blocks.specs.declared.Entry.{Entry}
+use Rattle.journal_blocks.specs.Bits.{bits_of}
+use Rattle.journal_blocks.specs.Journal.{version, blocks_bytes, journal_bytes, versioned, block_at, Fit, AllFit}
 use Rattle.journal_blocks.proofs.Rounds.{blocks-length}
 use Rattle.journal_blocks.proofs.Back.{bytes-from, begun}
 use Rattle.journal_audit.specs.Audit as audit
@@ -109,11 +108,11 @@ answered-below k a h =
     if (eqb k 0) Low (λ _. h) (λ _. if (eqb k 1) Low (λ _. lit< tt) (λ _. if (eqb k 2) Low (λ _. lit< tt) (λ _. if (eqb k 3) Low (λ _. lit< tt) (λ _. lit< tt))))
 
 bits_below : (k : Answer) → address_of k < top → bits_of (signed_of k) < 2 ^ 64
-bits_below (Accepted a) h = omega arith
-bits_below NoEntry h = lit< tt
-bits_below InvalidEntry h = lit< tt
-bits_below NoMemory h = lit< tt
-bits_below InvalidRequest h = lit< tt
+bits_below (Ok a) h = omega arith
+bits_below (Err NoEntry) h = lit< tt
+bits_below (Err InvalidEntry) h = lit< tt
+bits_below (Err NoMemory) h = lit< tt
+bits_below (Err InvalidRequest) h = lit< tt
 
 -- the numbers of the requests are of 64 bits
 unfoldable pub AllAsk : List Request → Type 0

@@ -2,9 +2,9 @@
 -- number of records. Assumes nothing.
 use Prim.Native.Nat.{ℕ, zero, suc, ◌+◌, ◌-◌, ◌≤◌, ◌<◌}
 use mathlib.Core.Bool.{Bool, true, false, cond, not}
-use mathlib.Core.List.{List, [], ◌∷◌, ◌++◌}
+use mathlib.Core.List.{List, ◌++◌}
 use mathlib.Core.Path.{◌≡◌, refl, sym, ap, ◌∙◌, subst}
-use lib.Dec.{T, eqb, leb, leb→le, le→leb}
+use lib.Dec.{T, eqb, leb, leb→le}
 use lib.ListN.{length, take, drop, length-append, length-drop}
 use lib.Seq.{take-append-le, drop-append-le, drop-drop}
 use native.Mathlib.Omega.{arith}
@@ -23,7 +23,7 @@ use Rattle.calls.specs.declared.Request.TheVariants.{Allocate, Reserve, Free}
 use Rattle.memory_allocator.proofs.Steps.{sound-held}
 use Rattle.bytes_be.specs.Numbers.{number}
 use Rattle.image_parts.specs.Read.{number_in}
-use Rattle.journal_blocks.specs.Journal.{length_of, is_length_lem, is_kind_lem, size_in, kind_in, word_in, entry, entry_in_lem, whole_block, block_of, block_at}
+use Rattle.journal_blocks.specs.Journal.{length_of, is_length_lem, is_kind_lem, size_in, kind_in, entry, entry_in_lem, whole_block, block_of, block_at}
 use Rattle.journal_blocks.specs.declared.Entry.{Entry}
 use Rattle.journal_blocks.specs.declared.Block.{Block}
 use Rattle.journal_blocks.specs.declared.Block.TheVariants as block
@@ -38,7 +38,8 @@ module _ (n : ℕ) (l : List ℕ) where
   judged-same : (f g : ℕ → ℕ → Book → Audited) (at i : ℕ) (b : Book) (w : Block) → Ahead at (drop at l) w
       → ((next : ℕ) (j : ℕ) (d : Book) → at < next → f next j d ≡ g next j d) → judged_by n f at i b w ≡ judged_by n g at i b w
   judged-same f g at i b (block.Call e next) h same =
-      ap (λ (r : Audited). cond (eqb (answer_bits_lem (replayed n b e.request)) e.answer) r (stands n at i (replayed n b e.request).book stop.Differs)) (same next (suc i) _ (let p = h.0 in omega arith))
+      ap (λ (r : Audited). cond (eqb (answer_bits_lem (replayed n b e.request)) e.answer) r (stands n at i (replayed n b e.request).book stop.Differs))
+      (same next (suc i) _ (let p = h.0 in omega arith))
   judged-same f g at i b block.End h same = refl
   judged-same f g at i b block.Truncated h same = refl
   judged-same f g at i b block.UnknownCall h same = refl
@@ -146,7 +147,8 @@ module _ (at : ℕ) (r ys : List ℕ) where
       let u = number-longer 27 8 (omega arith) in
       (λ i. entry (Reserve (record { 0 = p i }) (q i) (s i)) (u i))
   entry-longer (suc (suc (suc (suc kind)))) t h =
-      absurd (let g : suc (suc (suc (suc kind))) ≤ 3 = leb→le (suc (suc (suc (suc kind)))) 3 (and_r (leb 1 (suc (suc (suc (suc kind))))) (leb (suc (suc (suc (suc kind)))) 3) t) in let v : ⊥ = omega arith in v)
+      absurd (let g : suc (suc (suc (suc kind))) ≤ 3 = leb→le (suc (suc (suc (suc kind)))) 3
+      (and_r (leb 1 (suc (suc (suc (suc kind))))) (leb (suc (suc (suc (suc kind)))) 3) t) in let v : ⊥ = omega arith in v)
 
   module _ (w : Whole r) where
     kind-longer : kind_in (r ++ ys) ≡ kind_in r
@@ -158,7 +160,13 @@ module _ (at : ℕ) (r ys : List ℕ) where
         let z = size in
         let p = at_least (size_in r) w.sized in
         let q = w.there in
-        rw (le-leb 1 (length (r ++ ys)) (omega arith), le-leb 2 (length (r ++ ys)) (omega arith), number-longer 0 2 (omega arith), yes (is_length_lem (size_in r)) w.sized, le-leb (2 + size_in r) (length (r ++ ys)) (omega arith))
+        rw (
+          le-leb 1 (length (r ++ ys)) (omega arith),
+          le-leb 2 (length (r ++ ys)) (omega arith),
+          number-longer 0 2 (omega arith),
+          yes (is_length_lem (size_in r)) w.sized,
+          le-leb (2 + size_in r) (length (r ++ ys)) (omega arith),
+        )
 
   longer : (w : Block) → Seen at r w → wants w ≡ false → block_of at (r ++ ys) ≡ w
   unfolding whole_block block_of

@@ -6,12 +6,11 @@ use mathlib.Core.Path.{◌≡◌, refl, sym, ap, ◌∙◌, subst}
 use lib.Dec.{eqb, ltb}
 use lib.ListN.{length, drop, length-drop}
 use native.Mathlib.Omega.{arith}
-use borrow.Author.Tests.{lt-ltb, le-ltb, ltb-true}
+use borrow.Author.Tests.{lt-ltb, le-ltb}
 use Rattle.linked_lists.specs.Links.{none}
-use Rattle.rules.specs.Rules.{Book, step}
+use Rattle.rules.specs.Rules.{Book}
 use Rattle.rules.specs.Sound.{Sound}
 use Rattle.rules_laws.proofs.Steps.{step-sound}
-use Rattle.pool_state.specs.State.{state_of}
 use Rattle.pool_state.specs.Sound.{book_of, SoundState}
 use Rattle.pool_state.proofs.Book.{book-back}
 use Rattle.calls.specs.Calls.{call_of}
@@ -91,18 +90,16 @@ module _ (n : ℕ) (small : n ≤ none) (l : List ℕ) (a : Auditing) where
     judged (suc k) enough g block.UnknownCall h is = stays _ refl (ap (judged_by n (audit_from_lem n k l) at i b) (sym is) ∙ g)
     judged (suc k) enough g block.WrongLength h is = stays _ refl (ap (judged_by n (audit_from_lem n k l) at i b) (sym is) ∙ g)
 
-  pub underway-next : (d : Audited) → Ongoing n l a d → (r : Audited) → r ≡ judged_by n (stands_at_lem n) d.used d.auditing.index (book_of n d.auditing.state) (block_at l d.used)
-      → Underway n l a r (ltb d.used r.used)
-  underway-next d g r e =
-      subst (λ (x : Audited). Underway n l a x (ltb d.used x.used)) (sym e)
-      (judged d.used d.auditing.index (book_of n d.auditing.state) g.sound.book g.used g.index g.fuel g.enough g.same
-      (block_at l d.used) (ahead d.used (drop d.used l)) refl)
+  module _ (d : Audited) (g : Ongoing n l a d) (r : Audited) (e : r ≡ judged_by n (stands_at_lem n) d.used d.auditing.index (book_of n d.auditing.state) (block_at l d.used)) where
+    underway-next : Underway n l a r (ltb d.used r.used)
+    underway-next =
+        subst (λ (x : Audited). Underway n l a x (ltb d.used x.used)) (sym e)
+        (judged d.used d.auditing.index (book_of n d.auditing.state) g.sound.book g.used g.index g.fuel g.enough g.same
+        (block_at l d.used) (ahead d.used (drop d.used l)) refl)
 
--- the audit comes nearer to its end with each turn
-pub shorter : (n : ℕ) (l : List ℕ) (a : Auditing) (d r : Audited) (going : Bool) → going ≡ true → Ongoing n l a d → Underway n l a r (ltb d.used r.used)
-    → cond (ltb d.used r.used) (suc (length l - r.used)) 0 < cond going (suc (length l - d.used)) 0
-shorter n l a d r going e g u = rw e (go (ltb d.used r.used) refl u)
-  where
-    go : (t : Bool) → ltb d.used r.used ≡ t → Underway n l a r t → cond t (suc (length l - r.used)) 0 < suc (length l - d.used)
-    go true f v = let p = ltb-true d.used r.used f in let q = v.used in omega arith
-    go false f v = omega arith
+    -- a block was used, and the audit goes on behind it; or none was
+    pub underway-goes : d.used < r.used → Ongoing n l a r
+    underway-goes h = subst (Underway n l a r) (lt-ltb d.used r.used h) underway-next
+
+    pub underway-ends : r.used ≤ d.used → r ≡ audited_on n a l
+    underway-ends h = subst (Underway n l a r) (le-ltb d.used r.used h) underway-next

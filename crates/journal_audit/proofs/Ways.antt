@@ -1,6 +1,6 @@
 -- What an audit makes of a block, one way through after the other. n is the number of records. Assumes nothing.
 use Prim.Native.Nat.{ℕ, ◌+◌, ◌-◌, ◌≤◌}
-use mathlib.Core.Bool.{Bool, true, false, cond, not}
+use mathlib.Core.Bool.{Bool, true, false, not}
 use mathlib.Core.List.{List, [], ◌∷◌}
 use mathlib.Core.Path.{◌≡◌, sym, ap, ◌∙◌, subst}
 use lib.ListN.{length, take, drop, get_or, length-drop}
@@ -16,9 +16,8 @@ use Rattle.pool_state.specs.Sound.{book_of, SoundState}
 use Rattle.pool_state.specs.declared.MemoryAllocator.{MemoryAllocator}
 use Rattle.pool_state.proofs.States.{holds-state}
 use Rattle.pool_state.proofs.Book.{sound-holds}
-use Rattle.calls.specs.Calls.{call_of, signed_of}
+use Rattle.calls.specs.Calls.{Answer, call_of, signed_of}
 use Rattle.calls.specs.Answers.{Answers}
-use Rattle.calls.specs.declared.Answer.{Answer}
 use Rattle.calls.specs.declared.Outcome.{Outcome}
 use Rattle.core_serve.specs.Made.{held}
 use Rattle.core_serve.proofs.Judged.{answers-held}
@@ -28,25 +27,11 @@ use Rattle.journal_blocks.specs.Journal.{version, versioned}
 use Rattle.journal_blocks.specs.declared.Entry.{Entry}
 use Rattle.journal_blocks.specs.declared.Block.{Block}
 use Rattle.journal_blocks.specs.declared.Block.TheVariants as block
-use Rattle.journal_audit.specs.Audit.{Audited, answer_bits_lem, replayed, stands, stands_at_lem, judged_by, audited_on, begun, verdict_for, verdict_of_lem, audit_of}
-use Rattle.journal_audit.specs.declared.Stand.{Stand}
+use Rattle.journal_audit.specs.Audit.{Audited, answer_bits_lem, replayed, stands, stands_at_lem, judged_by, audited_on, begun, verdict_of_lem, audit_of}
 use Rattle.journal_audit.specs.declared.Stop.{Stop}
 use Rattle.journal_audit.specs.declared.Stop.TheVariants as stop
 use Rattle.journal_audit.specs.declared.Verdict.{Verdict}
-use Rattle.journal_audit.specs.declared.Verdict.TheVariants.{Agrees, Truncated, NoVersion}
-
--- ---- reports
-
-module _ (done : Stand) (size total : ℕ) where
-  -- what a stop reports
-  pub told : {s : Stop} → done.stop ≡ s → verdict_for s size done.used done.index total ≡ verdict_for done.stop size done.used done.index total
-  told e = ap (λ (s : Stop). verdict_for s size done.used done.index total) (sym e)
-
-  pub agrees : done.stop ≡ stop.More → done.used ≡ size → Agrees total ≡ verdict_for done.stop size done.used done.index total
-  agrees e all = sym (ap (λ (t : Bool). cond t (Agrees total) (Truncated done.index)) (eq-eqb _ _ all)) ∙ told e
-
-  pub cut_off : done.stop ≡ stop.More → (done.used ≡ size → ⊥) → Truncated done.index ≡ verdict_for done.stop size done.used done.index total
-  cut_off e left = sym (ap (λ (t : Bool). cond t (Agrees total) (Truncated done.index)) (ne_eqb _ _ left)) ∙ told e
+use Rattle.journal_audit.specs.declared.Verdict.TheVariants.{NoVersion}
 
 -- ---- blocks
 

@@ -70,7 +70,7 @@ fn audit_call(
     );
     if answer_bits(answer) != entry.answer {
         return Stand {
-            index: index,
+            index,
             used: at,
             stop: Stop::Differs,
         };
@@ -107,23 +107,18 @@ fn audit_block(
             total, first, heads, start, end, enabled, previous, next, lprev, lnext, index, entry,
             at, past,
         ),
-        Block::End => Stand {
-            index: index,
-            used: at,
-            stop: Stop::More,
-        },
-        Block::Truncated => Stand {
-            index: index,
+        Block::End | Block::Truncated => Stand {
+            index,
             used: at,
             stop: Stop::More,
         },
         Block::UnknownCall => Stand {
-            index: index,
+            index,
             used: at,
             stop: Stop::UnknownCall,
         },
         Block::WrongLength => Stand {
-            index: index,
+            index,
             used: at,
             stop: Stop::WrongLength,
         },
@@ -151,22 +146,21 @@ pub fn audit_part(
     ensures { turns (λ s s'. audited s' result ≡ audited_on pool (record { state = s; index = index }) part.now) total first heads start end enabled previous next lprev lnext }
 {
     let mut done = Stand {
-        index: index,
+        index,
         used: 0,
         stop: Stop::More,
     };
-    let mut going = true;
-    while going {
-        let passed = done.index;
+    loop {
         let at = done.used;
         let stand = audit_block(
-            total, first, heads, start, end, enabled, previous, next, lprev, lnext, passed, part,
-            at,
+            total, first, heads, start, end, enabled, previous, next, lprev, lnext, done.index,
+            part, at,
         );
-        going = at < stand.used;
+        if stand.used <= at {
+            return stand;
+        }
         done = stand;
     }
-    done
 }
 
 // What an audit of all blocks, of so many bytes, reports that has left this total.
@@ -174,14 +168,9 @@ pub fn verdict_of(done: Stand, total: u64, size: usize) -> Verdict
     ensures { result ≡ verdict_for done.stop size done.used done.index total }
 {
     let index = done.index;
-    let stop = done.stop;
-    match stop {
-        Stop::More => {
-            if done.used == size {
-                return Verdict::Agrees(total);
-            }
-            Verdict::Truncated(index)
-        }
+    match done.stop {
+        Stop::More if done.used == size => Verdict::Agrees(total),
+        Stop::More => Verdict::Truncated(index),
         Stop::Differs => Verdict::Differs(index),
         Stop::UnknownCall => Verdict::UnknownCall(index),
         Stop::WrongLength => Verdict::WrongLength(index),
@@ -226,6 +215,5 @@ pub fn audit(journal: &[u8]) -> Verdict
     if !has_version(journal) {
         return Verdict::NoVersion;
     }
-    let size = journal.len();
-    replay(&journal[1..size])
+    replay(&journal[1..])
 }

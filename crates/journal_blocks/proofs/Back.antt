@@ -1,26 +1,23 @@
 -- A journal without a fault is what the writer writes of what was read. Assumes nothing.
 use Prim.Native.Nat.{ℕ, zero, suc, ◌+◌, ◌*◌, ◌-◌, ◌^◌, ◌≤◌, ◌<◌}
-use mathlib.Core.Bool.{Bool, true, false, not}
-use mathlib.Core.List.{List, [], ◌∷◌, ◌++◌, append_assoc}
-use mathlib.Core.Path.{◌≡◌, refl, sym, ap, ◌∙◌, subst}
+use mathlib.Core.Bool.{Bool, true, false}
+use mathlib.Core.List.{List, [], ◌∷◌, ◌++◌}
+use mathlib.Core.Path.{◌≡◌, refl, sym, ap, ◌∙◌}
 use lib.Dec.{T, leb, leb→le}
 use lib.ListN.{length, take, drop, get_or, length-drop, take-append-drop, drop_of_length-le}
-use lib.Seq.{drop-drop, get_or-drop, drop-cons}
+use lib.Seq.{drop-drop, get_or-drop}
 use native.Mathlib.Omega.{arith}
-use borrow.Author.Tests.{eqb-true, leb-true, eq-eqb, ne_eqb}
+use borrow.Author.Tests.{eqb-true}
 use Rattle.linked_lists.proofs.Laws.{true≢false}
 use Rattle.rules_laws.proofs.Lists.{and_r}
-use Rattle.bytes_be.specs.Numbers.{be, number, Bytes}
-use Rattle.image_parts.specs.Read.{number_in}
+use Rattle.bytes_be.specs.Numbers.{be, Bytes}
 use Rattle.image_parts.proofs.Places.{beside, again, part-below, joined-take}
-use Rattle.calls.specs.declared.Request.{Request}
-use Rattle.calls.specs.declared.Request.TheVariants.{Allocate, Reserve, Free}
-use Rattle.journal_blocks.specs.Journal.{version, length_of, word_bytes, laid_out, block_bytes, blocks_bytes, journal_bytes, versioned, is_length_lem, is_kind_lem, size_in, kind_in, word_in, entry, entry_in_lem, block_of, block_at, Contents, contents, followed_by, read_from, read_all, Fits, AllFit}
+use Rattle.journal_blocks.specs.Journal.{version, length_of, word_bytes, laid_out, block_bytes, blocks_bytes, journal_bytes, versioned, is_kind_lem, size_in, kind_in, word_in, entry_in_lem, block_of, block_at, followed_by, read_from, read_all, Fits, AllFit}
 use Rattle.journal_blocks.specs.declared.Entry.{Entry}
 use Rattle.journal_blocks.specs.declared.Block.{Block}
 use Rattle.journal_blocks.specs.declared.Block.TheVariants.{Call, End, Truncated, UnknownCall, WrongLength}
 use Rattle.journal_blocks.proofs.Laid.{length-laid}
-use Rattle.journal_blocks.proofs.Seen.{Whole, Seen, none, short, unsized, unknown, unfit, call, seen, at_least}
+use Rattle.journal_blocks.proofs.Seen.{Whole, Seen, none, short, unsized, unknown, unfit, call, seen}
 use Rattle.journal_blocks.proofs.Rounds.{block_size}
 
 -- the bytes r begin with the block of e, and the place after it is `next`
@@ -118,7 +115,9 @@ module _ (at : ℕ) (r : List ℕ) (bytes : Bytes r) (w : Whole r) where
       go (suc zero) is t sized = begins-free is sized
       go (suc (suc zero)) is t sized = begins-allocate is sized
       go (suc (suc (suc zero))) is t sized = begins-reserve is sized
-      go (suc (suc (suc (suc kind)))) is t sized = absurd (let h : suc (suc (suc (suc kind))) ≤ 3 = leb→le (suc (suc (suc (suc kind)))) 3 (and_r (leb 1 (suc (suc (suc (suc kind))))) (leb (suc (suc (suc (suc kind)))) 3) t) in let v : ⊥ = omega arith in v)
+      go (suc (suc (suc (suc kind)))) is t sized =
+          absurd (let h : suc (suc (suc (suc kind))) ≤ 3 = leb→le (suc (suc (suc (suc kind)))) 3
+          (and_r (leb 1 (suc (suc (suc (suc kind))))) (leb (suc (suc (suc (suc kind)))) 3) t) in let v : ⊥ = omega arith in v)
 
 -- what a place says, of bytes
 abbrev pub Says : ℕ → List ℕ → Block → Type 0

@@ -4,7 +4,6 @@ use mathlib.Core.List.{List, [], ◌∷◌, ◌++◌}
 use mathlib.Core.Path.{◌≡◌, sym, subst}
 use lib.ListN.{length, length-append}
 use native.Mathlib.Omega.{arith}
-use Rattle.bytes_be.specs.Numbers.{be}
 use Rattle.bytes_be.proofs.Laws.{length-be}
 use Rattle.image_parts.proofs.Parts.{length-joined}
 use Rattle.script_texts.specs.Answers.{Puts}

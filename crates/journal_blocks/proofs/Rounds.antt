@@ -1,28 +1,24 @@
 -- What the writer writes, the reader reads, for any list of calls with any answers; and a journal without a fault is what the writer
 -- writes of what was read. Assumes nothing.
-use Prim.Native.Nat.{ℕ, zero, suc, ◌+◌, ◌*◌, ◌-◌, ◌^◌, ◌≤◌, ◌<◌}
-use mathlib.Core.Bool.{Bool, true, false, not}
+use Prim.Native.Nat.{ℕ, zero, suc, ◌+◌, ◌*◌, ◌^◌, ◌≤◌, ◌<◌}
+use mathlib.Core.Bool.{true}
 use mathlib.Core.List.{List, [], ◌∷◌, ◌++◌, append_assoc}
-use mathlib.Core.Path.{◌≡◌, refl, sym, ap, ◌∙◌, subst}
-use lib.Dec.{T, eqb, leb}
-use lib.ListN.{length, take, drop, get_or, length-append, length-drop, take-append-drop, drop_of_length-le}
-use lib.Seq.{drop_at, drop-drop, get_or-drop, drop-cons, take_all}
+use mathlib.Core.Path.{◌≡◌, refl, sym, ap, ◌∙◌}
+use lib.Dec.{eqb}
+use lib.ListN.{length, take, drop, get_or, length-append}
+use lib.Seq.{drop_at, drop-drop, take_all}
 use native.Mathlib.Omega.{arith}
-use borrow.Author.Tests.{le-leb, eqb-true}
-use Rattle.linked_lists.proofs.Laws.{true≢false}
-use Rattle.rules_laws.proofs.Lists.{and_l, and_r}
-use Rattle.bytes_be.specs.Numbers.{be, number, Bytes}
+use borrow.Author.Tests.{le-leb}
+use Rattle.bytes_be.specs.Numbers.{be, number}
 use Rattle.bytes_be.proofs.Laws.{length-be, number-be}
 use Rattle.image_parts.specs.Read.{number_in}
-use Rattle.image_parts.proofs.Places.{number-in, number_at, beside, again, part-below, joined-take}
+use Rattle.image_parts.proofs.Places.{number-in, number_at}
 use Rattle.calls.specs.declared.Request.{Request}
 use Rattle.calls.specs.declared.Request.TheVariants.{Allocate, Reserve, Free}
-use Rattle.journal_blocks.specs.Journal.{version, kind_of, numbers_of, length_of, word_bytes, laid_out, block_bytes, blocks_bytes, journal_bytes, versioned, is_length_lem, is_kind_lem, size_in, kind_in, word_in, entry, entry_in_lem, whole_block, block_of, block_at, Contents, contents, followed_by, read_from, read_all, Fit, Fits, AllFit}
+use Rattle.journal_blocks.specs.Journal.{length_of, word_bytes, laid_out, block_bytes, blocks_bytes, journal_bytes, is_length_lem, is_kind_lem, size_in, kind_in, word_in, entry, entry_in_lem, whole_block, block_of, block_at, Contents, contents, followed_by, read_from, read_all, Fit, Fits, AllFit}
 use Rattle.journal_blocks.specs.declared.Entry.{Entry}
-use Rattle.journal_blocks.specs.declared.Block.{Block}
-use Rattle.journal_blocks.specs.declared.Block.TheVariants.{Call, End, Truncated, UnknownCall, WrongLength}
-use Rattle.journal_blocks.proofs.Laid.{length-words, length-laid}
-use Rattle.journal_blocks.proofs.Seen.{Whole, Seen, none, short, unsized, unknown, unfit, call, seen, at_least}
+use Rattle.journal_blocks.specs.declared.Block.TheVariants.{Call, End}
+use Rattle.journal_blocks.proofs.Laid.{length-laid}
 
 -- ---- what is laid out is read
 

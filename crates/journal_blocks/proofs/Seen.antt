@@ -1,26 +1,15 @@
 -- What a place of a journal holds, by what its bytes say, and where a call's bytes are. Assumes nothing.
-use Prim.Native.Nat.{ℕ, zero, suc, ◌+◌, ◌*◌, ◌^◌, ◌≤◌, ◌<◌}
+use Prim.Native.Nat.{ℕ, ◌+◌, ◌≤◌, ◌<◌}
 use mathlib.Core.Bool.{Bool, true, false, not}
-use mathlib.Core.List.{List, [], ◌∷◌, ◌++◌, append_assoc}
-use mathlib.Core.Path.{◌≡◌, refl, sym, ap, ◌∙◌, subst}
+use mathlib.Core.List.{List}
+use mathlib.Core.Path.{◌≡◌, refl, sym, subst}
 use lib.Dec.{T, eqb, leb, leb→le, nleb→lt, eqb→eq}
-use lib.ListN.{length, take, drop, get_or, length-append, take-append-drop}
-use lib.Seq.{take-append-le, drop-append-le, take_all}
+use lib.ListN.{length}
 use native.Mathlib.Omega.{arith}
-use borrow.Author.Tests.{le-leb, lt-leb, eq-eqb}
 use Rattle.rules_laws.proofs.Lists.{if}
-use Rattle.bytes_be.specs.Numbers.{be, number, Bytes}
-use Rattle.bytes_be.proofs.Laws.{length-be, number-be}
-use Rattle.image_parts.specs.Written.{joined}
-use Rattle.image_parts.specs.Read.{number_in}
-use Rattle.image_parts.proofs.Places.{number-in, number_at, beside, again, part-below, joined-take}
-use Rattle.calls.specs.declared.Request.{Request}
-use Rattle.calls.specs.declared.Request.TheVariants.{Allocate, Reserve, Free}
-use Rattle.journal_blocks.specs.Journal.{kind_of, numbers_of, length_of, word_bytes, laid_out, block_bytes, is_length_lem, is_kind_lem, size_in, kind_in, word_in, entry, entry_in_lem, whole_block, block_of, Fit, Fits}
-use Rattle.journal_blocks.specs.declared.Entry.{Entry}
+use Rattle.journal_blocks.specs.Journal.{length_of, is_length_lem, is_kind_lem, size_in, kind_in, entry_in_lem, whole_block, block_of}
 use Rattle.journal_blocks.specs.declared.Block.{Block}
 use Rattle.journal_blocks.specs.declared.Block.TheVariants.{Call, End, Truncated, UnknownCall, WrongLength}
-use Rattle.journal_blocks.proofs.Laid.{length-words, length-laid}
 
 -- ---- the tests, and what stands behind each
 

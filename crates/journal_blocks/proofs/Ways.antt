@@ -1,7 +1,7 @@
 -- What the tests of a block tell, one way through after the other. Assumes nothing.
-use Prim.Native.Nat.{ℕ, ◌+◌, ◌*◌, ◌-◌, ◌≤◌, ◌<◌}
+use Prim.Native.Nat.{ℕ, ◌+◌, ◌-◌, ◌≤◌, ◌<◌}
 use mathlib.Core.Bool.{Bool, true, false, cond, not}
-use mathlib.Core.List.{List, [], ◌++◌, append_assoc, append-nil}
+use mathlib.Core.List.{List}
 use mathlib.Core.Path.{◌≡◌, refl, sym, ap, ◌∙◌}
 use lib.Dec.{eqb, leb}
 use lib.ListN.{length, take, drop, length-drop, drop_of_length-le}
@@ -9,7 +9,6 @@ use lib.Seq.{take_all}
 use native.Mathlib.Omega.{arith}
 use borrow.Author.Tests.{le-leb, lt-leb, leb-true, eqb-true, eq-eqb, ne_eqb, not-true, not-false}
 use Rattle.linked_lists.proofs.Laws.{true≢false}
-use Rattle.image_parts.specs.Read.{number_in}
 use Rattle.journal_blocks.specs.Journal.{length_of, is_length_lem, is_kind_lem, size_in, kind_in, word_in, entry_in_lem, entry, whole_block, block_of, block_at}
 use Rattle.journal_blocks.specs.declared.Entry.{Entry}
 use Rattle.journal_blocks.specs.declared.Block.{Block}
@@ -18,23 +17,8 @@ use Rattle.calls.specs.declared.Request.TheVariants.{Allocate, Reserve, Free}
 
 -- ---- lengths and call bytes
 
-pub short-length : (size : ℕ) → size ≡ 25 → true ≡ is_length_lem size
-short-length size e = rw (eq-eqb size 25 e)
-
-pub long-length : (size : ℕ) → (size ≡ 25 → ⊥) → eqb size 33 ≡ is_length_lem size
-long-length size d = rw (ne_eqb size 25 d)
-
-pub no_kind : (kind : ℕ) → kind < 1 → false ≡ is_kind_lem kind
-no_kind kind h = rw (lt-leb 1 kind h)
-
-pub some-kind : (kind : ℕ) → 1 ≤ kind → leb kind 3 ≡ is_kind_lem kind
-some-kind kind h = rw (le-leb 1 kind h)
-
 pub length-reserve : (kind : ℕ) → kind ≡ 3 → 33 ≡ length_of kind
 length-reserve kind e = rw (eq-eqb kind 3 e)
-
-pub length-other : (kind : ℕ) → (kind ≡ 3 → ⊥) → 25 ≡ length_of kind
-length-other kind d = rw (ne_eqb kind 3 d)
 
 -- no call's length is less
 pub least-length : (kind : ℕ) → 25 ≤ length_of kind

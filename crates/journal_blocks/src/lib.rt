@@ -9,7 +9,7 @@ ghost use Rattle.journal_blocks.specs.Bits.{bits_of};
 ghost use Rattle.journal_blocks.specs.Journal.{version, versioned, block_at, block_bytes};
 
 use batch::{ALLOCATE, FREE, RESERVE};
-use calls::{Answer, Request};
+use calls::{Answer, MemoryError, Request};
 use reading::read_front;
 use script_texts::put_bytes;
 use writing::put_block;
@@ -41,21 +41,18 @@ pub fn answer_bits(answer: Answer) -> u64
     ensures { result ≡ bits_of (signed_of answer) }
 {
     match answer {
-        Answer::Accepted(address) => address.0,
-        Answer::NoEntry => 18446744073709551615,
-        Answer::InvalidEntry => 18446744073709551614,
-        Answer::NoMemory => 18446744073709551613,
-        Answer::InvalidRequest => 18446744073709551612,
+        Ok(address) => address.0,
+        Err(MemoryError::NoEntry) => 18446744073709551615,
+        Err(MemoryError::InvalidEntry) => 18446744073709551614,
+        Err(MemoryError::NoMemory) => 18446744073709551613,
+        Err(MemoryError::InvalidRequest) => 18446744073709551612,
     }
 }
 
 pub fn has_version(journal: &[u8]) -> bool
     ensures { result ≡ versioned journal.now }
 {
-    if journal.len() == 0 {
-        return false;
-    }
-    journal[0] == VERSION
+    journal.first() == Some(&VERSION)
 }
 
 // The block at a place; at or past the end there is none.
@@ -65,8 +62,7 @@ pub fn read_block(journal: &[u8], at: usize) -> Block
     if journal.len() <= at {
         return Block::End;
     }
-    let end = journal.len();
-    read_front(&journal[at..end], at)
+    read_front(&journal[at..], at)
 }
 
 // The version byte: a journal without calls.
@@ -80,9 +76,8 @@ pub fn begin(journal: &mut [u8]) -> usize
 pub fn write_block(journal: &mut [u8], at: usize, entry: Entry) -> usize
     ensures { Puts (block_bytes entry) (was journal) at (is journal) result }
 {
-    let request = entry.request;
     let answer = entry.answer;
-    match request {
+    match entry.request {
         Request::Allocate(size, order) => put_block(journal, at, ALLOCATE, &[size, order, answer]),
         Request::Reserve(address, size, order) => {
             put_block(journal, at, RESERVE, &[address.0, size, order, answer])

@@ -17,28 +17,19 @@ const LONG: u64 = 33;
 fn is_length(size: u64) -> bool
     ensures { result ≡ is_length_lem size }
 {
-    if size == SHORT {
-        return true;
-    }
-    size == LONG
+    matches!(size, SHORT | LONG)
 }
 
 fn is_kind(kind: u64) -> bool
     ensures { result ≡ is_kind_lem kind }
 {
-    if kind < FREE {
-        return false;
-    }
-    kind <= RESERVE
+    matches!(kind, FREE..=RESERVE)
 }
 
 fn length_of(kind: u64) -> u64
     ensures { result ≡ length_of kind }
 {
-    if kind == RESERVE {
-        return LONG;
-    }
-    SHORT
+    if kind == RESERVE { LONG } else { SHORT }
 }
 
 // The j-th number of a block.
@@ -59,21 +50,19 @@ fn entry_in(block: &[u8], kind: u64) -> Entry
     let x = word_at(block, 0);
     let y = word_at(block, 1);
     let z = word_at(block, 2);
-    if kind == FREE {
-        return Entry {
+    match kind {
+        FREE => Entry {
             request: Request::Free(Address(x), y),
             answer: z,
-        };
-    }
-    if kind == ALLOCATE {
-        return Entry {
+        },
+        ALLOCATE => Entry {
             request: Request::Allocate(x, y),
             answer: z,
-        };
-    }
-    Entry {
-        request: Request::Reserve(Address(x), y, z),
-        answer: word_at(block, 3),
+        },
+        _ => Entry {
+            request: Request::Reserve(Address(x), y, z),
+            answer: word_at(block, 3),
+        },
     }
 }
 

@@ -18,11 +18,9 @@ fn put_words(part: &mut [u8], words: &[u64])
     requires { length part.old ≡ 8 * length words.now }
     ensures { is part ≡ word_bytes words.now }
 {
-    let mut k = 0;
-    while k < words.len() {
+    for (k, word) in words.iter().enumerate() {
         let at = WORD * k;
-        put_be(&mut part[at..at + WORD], words[k]);
-        k += 1;
+        put_be(&mut part[at..at + WORD], *word);
     }
 }
 

@@ -8,15 +8,14 @@ use lib.ListN.{length, get_or, drop, length-drop}
 use lib.Seq.{sets, sets-eq}
 use native.Mathlib.Omega.{arith}
 use borrow.Author.Tests.{leb-true, leb-false, le-leb, lt-leb}
+use Rattle.std.specs.Prelude.{Err, None}
 use Rattle.linked_lists.proofs.Laws.{true≢false}
 use Rattle.script_texts.specs.Answers.{fits, written, past, Puts}
 use Rattle.calls.specs.Calls.{signed_of}
-use Rattle.calls.specs.declared.Answer.TheVariants.{InvalidEntry, InvalidRequest}
+use Rattle.calls.specs.declared.MemoryError.TheVariants.{InvalidEntry, InvalidRequest}
 use Rattle.calls.specs.declared.Request.{Request}
 use Rattle.calls.specs.declared.Request.TheVariants.{Allocate, Reserve, Free}
-use Rattle.batch.specs.InWords.{asked_of, words_of_lem, asked, asked_at_lem}
-use Rattle.batch.specs.declared.Asked.{Asked}
-use Rattle.batch.specs.declared.Asked.TheVariants.{Unknown}
+use Rattle.batch.specs.InWords.{asked_of, words_of_lem, asked, asked_at_lem, Asked}
 use Rattle.journal_blocks.specs.Journal.{version, block_at}
 use Rattle.journal_blocks.specs.declared.Entry.{Entry}
 use Rattle.journal_blocks.specs.declared.Block.{Block}
@@ -44,9 +43,9 @@ module _ (t l : List ℕ) (at : ℕ) (some : 0 < length t) (m : List ℕ) (r : �
       go true f = absurd (let v : ⊥ = omega arith in v)
       go false f = refl
 
-  pub not-put : r ≡ at → left (signed_of InvalidRequest) m ≡ put_over t l at
+  pub not-put : r ≡ at → left (signed_of (Err InvalidRequest)) m ≡ put_over t l at
   unfolding put_over
-  not-put e = let b = p.bytes in rw (stays e) (λ i. left (signed_of InvalidRequest) (b i))
+  not-put e = let b = p.bytes in rw (stays e) (λ i. left (signed_of (Err InvalidRequest)) (b i))
 
   pub is-place : (r ≡ at → ⊥) → r ≡ at + length t
   unfolding past
@@ -59,7 +58,7 @@ module _ (t l : List ℕ) (at : ℕ) (some : 0 < length t) (m : List ℕ) (r : �
   unfolding put_over
   is-put d z e = let b = p.bytes in let q = e ∙ ap pos (is-place d) in rw (moves d) (λ i. left (q i) (b i))
 
-pub no_room : (t l : List ℕ) (at : ℕ) → length l < at + length t → left (signed_of InvalidRequest) l ≡ put_over t l at
+pub no_room : (t l : List ℕ) (at : ℕ) → length l < at + length t → left (signed_of (Err InvalidRequest)) l ≡ put_over t l at
 unfolding put_over written
 no_room t l at h = rw (lt-leb (at + length t) (length l) h)
 
@@ -87,7 +86,7 @@ four (Allocate z o) = refl
 four (Reserve a z o) = refl
 
 module _ (e : Entry) (next : ℕ) (old : List ℕ) where
-  pub too_few : length old < 5 → left (signed_of InvalidRequest) old ≡ stored_over e next old
+  pub too_few : length old < 5 → left (signed_of (Err InvalidRequest)) old ≡ stored_over e next old
   unfolding stored_over
   too_few h = rw (lt-leb 5 (length old) h)
 
@@ -105,7 +104,7 @@ module _ (e : Entry) (next : ℕ) (old : List ℕ) where
 -- ---- a block that is read
 
 module _ (l : List ℕ) (at : ℕ) (old : List ℕ) where
-  pub past_end : length l < at → left (signed_of InvalidRequest) old ≡ read_over l at old
+  pub past_end : length l < at → left (signed_of (Err InvalidRequest)) old ≡ read_over l at old
   unfolding read_over
   past_end h = rw (lt-leb at (length l) h)
 

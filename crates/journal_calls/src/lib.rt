@@ -9,12 +9,10 @@ ghost use Rattle.journal_blocks.specs.Journal.{version, block_bytes};
 ghost use Rattle.journal_audit.specs.Audit.{audit_of};
 ghost use Rattle.journal_calls.specs.Calls.{left, put_over, write_over, stored_over, read_over, Reports};
 
-use batch::{Asked, asked_at, words_of};
-use calls::INVALID_ENTRY;
+use batch::{asked_at, words_of};
+use calls::{INVALID_ENTRY, INVALID_REQUEST};
 use journal_audit::{Verdict, audit};
 use journal_blocks::{Block, Entry, begin, read_block, write_block};
-
-pub const INVALID_REQUEST: i64 = -4;
 
 // The words of a call and its answer.
 pub const ENTRY_WORDS: usize = 5;
@@ -53,7 +51,7 @@ pub fn write_entry(
     ensures { left result (is journal) ≡ write_over (asked_of kind x y z) answer (was journal) at }
 {
     match asked_at(&[kind, x, y, z], 0) {
-        Asked::Is(request) => put_entry(
+        Some(request) => put_entry(
             journal,
             at,
             Entry {
@@ -61,7 +59,7 @@ pub fn write_entry(
                 answer: answer,
             },
         ),
-        Asked::Unknown => INVALID_REQUEST,
+        None => INVALID_REQUEST,
     }
 }
 
@@ -93,9 +91,7 @@ pub fn read_entry(journal: &[u8], at: usize, words: &mut [u64]) -> i64
     match read_block(journal, at) {
         Block::Call(entry, next) => store_entry(entry, next, words),
         Block::End => 0,
-        Block::Truncated => INVALID_ENTRY,
-        Block::UnknownCall => INVALID_ENTRY,
-        Block::WrongLength => INVALID_ENTRY,
+        Block::Truncated | Block::UnknownCall | Block::WrongLength => INVALID_ENTRY,
     }
 }
 

@@ -1,3 +1,4 @@
+use mathlib.Core.Logic.{⊎_elim}
 use mathlib.Core.Path.{refl}
 use lib.Dec.{lit≤}
 use Rattle.pool_state.specs.Shown.{pool}
@@ -6,30 +7,19 @@ use Rattle.journal_audit.proofs.audit_block.Goals as goal
 
 pub returns-in-Call : goal.returns-in-Call
 returns-in-Call c =
-    let keyed = c in
-    let read = keyed in
-    block-judged pool _ _ _ _ _ read.read_block.ensures _ keyed.in-Call.is _ c.audit_call.ensures
+    block-judged pool _ _ _ _ _ c.read_block.ensures _ c.in-Call.is _ c.audit_call.ensures
 
 pub returns-in-End : goal.returns-in-End
 returns-in-End c =
-    let read = c in
-    let s = read in
-    fault-judged pool (lit≤ tt) _ _ _ s.requires.fields _ _ read.read_block.ensures _ c.in-End.is _ refl
-
-pub returns-in-Truncated : goal.returns-in-Truncated
-returns-in-Truncated c =
-    let read = c in
-    let s = read in
-    fault-judged pool (lit≤ tt) _ _ _ s.requires.fields _ _ read.read_block.ensures _ c.in-Truncated.is _ refl
+    ⊎_elim
+    (λ e. fault-judged pool (lit≤ tt) _ _ _ c.requires.fields _ _ c.read_block.ensures _ e _ refl)
+    (λ e. fault-judged pool (lit≤ tt) _ _ _ c.requires.fields _ _ c.read_block.ensures _ e _ refl)
+    c.in-End.is
 
 pub returns-in-UnknownCall : goal.returns-in-UnknownCall
 returns-in-UnknownCall c =
-    let read = c in
-    let s = read in
-    fault-judged pool (lit≤ tt) _ _ _ s.requires.fields _ _ read.read_block.ensures _ c.in-UnknownCall.is _ refl
+    fault-judged pool (lit≤ tt) _ _ _ c.requires.fields _ _ c.read_block.ensures _ c.in-UnknownCall.is _ refl
 
 pub returns-in-WrongLength : goal.returns-in-WrongLength
 returns-in-WrongLength c =
-    let read = c in
-    let s = read in
-    fault-judged pool (lit≤ tt) _ _ _ s.requires.fields _ _ read.read_block.ensures _ c.in-WrongLength.is _ refl
+    fault-judged pool (lit≤ tt) _ _ _ c.requires.fields _ _ c.read_block.ensures _ c.in-WrongLength.is _ refl

@@ -12,29 +12,20 @@ slice_bounds-read_be-end c =
 
 pub returns-then-not-is_kind : goal.returns-then-not-is_kind
 returns-then-not-is_kind c =
-    let told = c in
-    let read = told in
-    unknown-call _ _ read.args.block.now _ read.read_be-kind.ensures.value _ told.is_kind.ensures (ap not c.if-not-is_kind.true)
+    unknown-call _ _ c.args.block.now _ c.read_be-kind.ensures.value _ c.is_kind.ensures (ap not c.if-not-is_kind.true)
 
 pub returns-then-size-length_of : goal.returns-then-size-length_of
 returns-then-size-length_of c =
-    let sized = c in
-    let known = sized in
-    let read = known in
-    wrong-length _ _ read.args.block.now _ read.read_be-kind.ensures.value _ known.is_kind.ensures (ap not known.if-not-is_kind.false) _ sized.length_of.ensures c.if-size-length_of.true
+    wrong-length _ _ c.args.block.now _ c.read_be-kind.ensures.value _ c.is_kind.ensures (ap not c.if-not-is_kind.false) _ c.length_of.ensures c.if-size-length_of.true
 
 pub entry_in-entry-requires : goal.entry_in-entry-requires
 entry_in-entry-requires c =
-    let sized = c in
-    let known = sized in
-    let s = known in
-    record { kind_in_bounds = omega (arith, sized.length_of.ensures, c.if-size-length_of.false, s.requires.1); kind_value = sym known.is_kind.ensures ∙ not-false _ (ap not known.if-not-is_kind.false) }
+    record {
+      kind_in_bounds = omega (arith, c.length_of.ensures, c.if-size-length_of.false, c.requires.1);
+      kind_value = sym c.is_kind.ensures ∙ not-false _ (ap not c.if-not-is_kind.false);
+    }
 
 pub returns : goal.returns
 returns c =
-    let fits = c in
-    let sized = fits in
-    let known = sized in
-    let read = known in
-    a_call _ _ read.args.block.now _ read.read_be-kind.ensures.value _ known.is_kind.ensures (ap not known.if-not-is_kind.false) _ sized.length_of.ensures
-    fits.if-size-length_of.false _ c.entry_in-entry.ensures
+    a_call _ _ c.args.block.now _ c.read_be-kind.ensures.value _ c.is_kind.ensures (ap not c.if-not-is_kind.false) _ c.length_of.ensures
+    c.if-size-length_of.false _ c.entry_in-entry.ensures

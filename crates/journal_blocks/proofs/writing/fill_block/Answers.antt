@@ -10,13 +10,9 @@ use Rattle.journal_blocks.proofs.writing.fill_block.Goals as goal
 pub returns : goal.returns
 unfolding laid_out
 returns c =
-    let words = c in
-    let kind = words in
-    let size = kind in
-    let start = size in
-    let xs = start.args.part.now in
-    let all : length xs ≡ 3 + 8 * length start.args.words.now = start.requires in
-    let rest : length xs - 2 ≡ 1 + 8 * length start.args.words.now = omega arith in
-    let s₁ = put-number xs [] _ _ 0 2 _ _ (omega arith) (begin xs) size.put_be.ensures rest in
-    let s₂ = put-number xs _ _ _ 2 1 _ _ (omega arith) s₁ kind.put_be-2.ensures refl in
-    put_last xs _ _ _ _ 3 (length xs - 3) (omega arith) s₂ words.put_words.ensures ∙ simp append_assoc
+    let xs = c.args.part.now in
+    let all : length xs ≡ 3 + 8 * length c.args.words.now = c.requires in
+    let rest : length xs - 2 ≡ 1 + 8 * length c.args.words.now = omega arith in
+    let s₁ = put-number xs [] _ _ 0 2 _ _ (omega arith) (begin xs) c.put_be.ensures rest in
+    let s₂ = put-number xs _ _ _ 2 1 _ _ (omega arith) s₁ c.put_be-2.ensures refl in
+    put_last xs _ _ _ _ 3 (length xs - 3) (omega arith) s₂ c.put_words.ensures ∙ simp append_assoc

@@ -7,19 +7,14 @@ use Rattle.journal_blocks.proofs.writing.put_block.Goals as goal
 
 pub returns-then-journal-size : goal.returns-then-journal-size
 returns-then-journal-size c =
-    let s = c in
-    put-none (laid_out s.args.kind s.args.words.now) s.args.journal.now s.args.at (omega (arith, length-laid s.args.kind s.args.words.now))
+    put-none (laid_out c.args.kind c.args.words.now) c.args.journal.now c.args.at (omega (arith, length-laid c.args.kind c.args.words.now))
 
 pub returns-then-journal-size-2 : goal.returns-then-journal-size-2
 returns-then-journal-size-2 c =
-    let s = c in
-    put-none (laid_out s.args.kind s.args.words.now) s.args.journal.now s.args.at (omega (arith, length-laid s.args.kind s.args.words.now))
+    put-none (laid_out c.args.kind c.args.words.now) c.args.journal.now c.args.at (omega (arith, length-laid c.args.kind c.args.words.now))
 
 pub returns : goal.returns
 returns c =
-    let filled = c in
-    let room = filled in
-    let s = room in
-    let size = length-laid s.args.kind s.args.words.now in
-    put-part (laid_out s.args.kind s.args.words.now) s.args.journal.now _ s.args.at _ (sym size) (omega (arith, size, room.if-journal-size.false, room.if-journal-size-2.false))
-    filled.fill_block.ensures
+    let size = length-laid c.args.kind c.args.words.now in
+    put-part (laid_out c.args.kind c.args.words.now) c.args.journal.now _ c.args.at _ (sym size) (omega (arith, size, c.if-journal-size.false, c.if-journal-size-2.false))
+    c.fill_block.ensures

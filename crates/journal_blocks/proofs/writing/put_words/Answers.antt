@@ -12,10 +12,6 @@ pub loop-k-init : goal.loop-k-init
 loop-k-init c =
     lay-start _ 0 8 _ _ (omega (arith, c.requires))
 
-pub put_be-requires : goal.put_be-requires
-put_be-requires c =
-    tt
-
 pub loop-k-preserved : goal.loop-k-preserved
 loop-k-preserved c =
     let l = c.loop-k in
