@@ -1,5 +1,6 @@
 -- Where the audit of a part has led. n is the number of records. Assumes nothing.
 use Rattle.std.proofs.Common.{◌≡◌, ℕ, ◌+◌, ◌≤◌, List, [], sym, subst, length, arith}
+use Rattle.std.specs.Prelude.{Option, Some, None, IfSome}
 use Rattle.linked_lists.specs.Links.{none}
 use Rattle.pool_state.specs.Sound.{SoundState}
 use Rattle.pool_state.specs.declared.MemoryAllocator.{MemoryAllocator}
@@ -20,8 +21,7 @@ led n small a p size e h d is =
     let f = k.few in
     subst (Led n a size) (sym is) (record { sound = part_sound n small p [] a h; used = omega arith; few = omega arith })
 
-pub more-seated : (r : Sitting) (buf : List ℕ) (k m : ℕ) → k ≤ m → Seated r buf k → Seated r buf m
-more-seated r buf k m h g = let f = g.few in record { held = g.held; few = omega arith }
-
-pub more-passed : (n : ℕ) (s : MemoryAllocator) (r : Sitting) (buf : List ℕ) (k m : ℕ) → k ≤ m → Ready n s r buf k → Ready n s r buf m
-more-passed n s r buf k m h g = record { sound = g.sound; seated = more-seated r buf k m h g.seated }
+pub more-seated : (o : Option Sitting) (n : ℕ) (s : MemoryAllocator) (buf : List ℕ) (k m : ℕ) → SoundState n s → k ≤ m
+    → IfSome o (λ (r : Sitting). Seated r buf k) → IfSome o (λ (r : Sitting). Ready n s r buf m)
+more-seated None n s buf k m sound h g = tt
+more-seated (Some r) n s buf k m sound h g = let f = g.few in record { sound = sound; seated = record { held = g.held; few = omega arith } }

@@ -1,7 +1,7 @@
 // The program that audits a journal: standard input is read in parts, and one line says what was found. The state is ten lent fields.
 #![tactic(auto)]
 
-ghost use Rattle.std.specs.Prelude.{◌≡◌, ◌+◌, ◌<◌, ◌≤◌, ◌^◌, length};
+ghost use Rattle.std.specs.Prelude.{◌≡◌, ◌+◌, ◌<◌, ◌≤◌, ◌^◌, IfSome, length};
 ghost use Rattle.pool_state.specs.Shown.{pool};
 ghost use Rattle.pool_state.specs.Sound.{SoundState};
 ghost use Rattle.pool_state.specs.Lent.{was, is, fields, turns};
@@ -13,13 +13,11 @@ use journal_prints::{report, shift};
 use pool_state::{LISTS, NONE, POOL};
 use streams::{Streams, read_some};
 
-// How many calls have agreed, how many bytes at the front of the buffer are still to be judged, and whether a line was printed or a call
-// has failed.
+// How many calls have agreed, and how many bytes at the front of the buffer are still to be judged.
 #[derive(Clone, Copy)]
 pub struct Sitting {
     pub index: u64,
     pub held: usize,
-    pub over: bool,
 }
 
 fn wants_more(stop: Stop) -> bool {
@@ -31,12 +29,17 @@ fn wants_more(stop: Stop) -> bool {
     }
 }
 
-// What was not used goes to the front, and more is read behind it. At the end of the input the audit is reported.
-fn read_on(mut streams: Streams, total: u64, done: Stand, held: usize, buf: &mut [u8]) -> Sitting
+// What was not used goes to the front, and more is read behind it. At the end of the input the audit is reported. None: all is over.
+fn read_on(
+    mut streams: Streams,
+    total: u64,
+    done: Stand,
+    held: usize,
+    buf: &mut [u8],
+) -> Option<Sitting>
     requires { (done.used ≤ held) × (held ≤ length buf.old) }
-    ensures { Seated result (is buf) done.index }
+    ensures { IfSome result (λ (r : Sitting). Seated r (is buf) done.index) }
 {
-    let index = done.index;
     let rest = shift(buf, done.used, held);
     let end = buf.len();
     let read = read_some(
@@ -45,34 +48,25 @@ fn read_on(mut streams: Streams, total: u64, done: Stand, held: usize, buf: &mut
         &mut buf[rest..end],
         b"failed: the journal cannot be read",
     );
-    if read.failed {
-        return Sitting {
-            index: index,
-            held: 0,
-            over: true,
-        };
-    }
-    if read.bytes == 0 {
+    let Ok(count) = read else {
+        return None;
+    };
+    if count == 0 {
         let last = Stand {
-            index: index,
+            index: done.index,
             used: 0,
             stop: Stop::More,
         };
         report(streams, verdict_of(last, total, rest));
-        return Sitting {
-            index: index,
-            held: 0,
-            over: true,
-        };
+        return None;
     }
-    Sitting {
-        index: index,
-        held: rest + read.bytes,
-        over: false,
-    }
+    Some(Sitting {
+        index: done.index,
+        held: rest + count,
+    })
 }
 
-// The blocks in the buffer are judged.
+// The blocks in the buffer are judged. None: a line was printed, or a call has failed.
 fn turn(
     streams: Streams,
     total: &mut u64,
@@ -87,10 +81,10 @@ fn turn(
     lnext: &mut [u16; POOL],
     s: Sitting,
     buf: &mut [u8],
-) -> Sitting
+) -> Option<Sitting>
     requires fields { fields (SoundState pool) total first heads start end enabled previous next lprev lnext }
     requires held_in_bounds { (s.held ≤ length buf.old) × (s.index + length buf.old + 1 < 2 ^ 64) }
-    ensures { turns (λ _ s'. Ready pool s' result (is buf) (s.index + length (was buf))) total first heads start end enabled previous next lprev lnext }
+    ensures { turns (λ _ s'. IfSome result (λ (r : Sitting). Ready pool s' r (is buf) (s.index + length (was buf)))) total first heads start end enabled previous next lprev lnext }
 {
     let held = s.held;
     let done = audit_part(
@@ -107,17 +101,11 @@ fn turn(
         s.index,
         &buf[..held],
     );
-    let stop = done.stop;
-    if wants_more(stop) {
+    if wants_more(done.stop) {
         return read_on(streams, *total, done, held, buf);
     }
-    let index = done.index;
     report(streams, verdict_of(done, *total, held));
-    Sitting {
-        index: index,
-        held: 0,
-        over: true,
-    }
+    None
 }
 
 // A proved loop has to end: the turns are more than any file takes.
@@ -142,14 +130,15 @@ fn audit_all(
     let mut s = Sitting {
         index: 0,
         held: count,
-        over: false,
     };
-    let mut turns: u64 = 140737488355328;
-    while !s.over && turns > 0 {
-        s = turn(
+    for _turns in 0..140737488355328u64 {
+        let led = turn(
             streams, total, first, heads, start, end, enabled, previous, next, lprev, lnext, s, buf,
         );
-        turns -= 1;
+        match led {
+            Some(more) => s = more,
+            None => return,
+        }
     }
 }
 
@@ -213,8 +202,7 @@ fn main(rt: HostRuntime) {
         &mut buf,
         b"failed: the journal cannot be read",
     );
-    if read.failed {
-        return;
+    if let Ok(count) = read {
+        open(streams, &mut buf, count);
     }
-    open(streams, &mut buf, read.bytes);
 }

@@ -8,13 +8,15 @@ use native.Mathlib.Omega.{arith}
 use borrow.Author.Tests.{eq-eqb, ne_eqb, eqb-true, le-leb}
 use lib.Dec.{eqb}
 use lib.ListN.{length, drop, get_or}
+use Rattle.std.specs.Prelude.{Ok, Err}
 use Rattle.rules.specs.Rules.{Range, start_of, sum}
 use Rattle.pool_listing.specs.Listing.{last_of, written}
-use Rattle.core_accounts.specs.Accounts.{counted, refused}
-use Rattle.calls.specs.Calls.{number_of}
-use Rattle.calls.specs.declared.Answer.{Answer}
-use Rattle.calls.specs.declared.Answer.TheVariants.{Accepted, NoEntry, InvalidEntry, NoMemory, InvalidRequest}
-use Rattle.calls.specs.declared.Counted.{Counted}
+use Rattle.core_accounts.specs.Accounts.{counted, value_of}
+use Rattle.calls.specs.Calls.{Answer, Counted, number_of}
+use Rattle.pool_state.specs.declared.Address.{Address}
+use Rattle.calls.proofs.Numbers.{refusal-nonzero}
+use Rattle.calls.specs.declared.MemoryError.{MemoryError}
+use Rattle.calls.specs.declared.MemoryError.TheVariants.{NoEntry, InvalidEntry, NoMemory, InvalidRequest}
 use Rattle.holder_rules.specs.Register.{entries, used, range_of, held, those}
 use Rattle.holder_rules.specs.declared.Entry.{Entry}
 use Rattle.holder_rules.specs.declared.HolderAllocator.{HolderAllocator}
@@ -69,30 +71,42 @@ rows-ranges (q ∷ c) x y z =
 
 -- ---- what was asked
 
-held-is : (k : Answer) (v : ℕ) → number_of (asked k (counted v)).answer ≡ number_of k
+held-is : (k : Answer) (v : ℕ) → number_of (asked k (counted v)) ≡ number_of k
 unfolding asked
-held-is k v = go (eqb (number_of k) 0) refl
-  where
-    go : (b : Bool) → eqb (number_of k) 0 ≡ b → number_of (cond b (counted v) (refused k)).answer ≡ number_of k
-    go true e = sym (eqb-true (number_of k) 0 e)
-    go false e = refl
+held-is (Ok a) v = refl
+held-is (Err NoEntry) v = refl
+held-is (Err InvalidEntry) v = refl
+held-is (Err NoMemory) v = refl
+held-is (Err InvalidRequest) v = refl
 
-module _ (n : ℕ) (s : HolderAllocator) (w : Whose) (c : Counted) (is : c ≡ held_of n s w) (m : ℕ) (number : m ≡ number_of c.answer) where
+asked-is : (k : Answer) (c : Counted) → number_of k ≡ 0 → asked k c ≡ c
+unfolding asked
+asked-is (Ok a) c d = refl
+asked-is (Err x) c d = absurd (refusal-nonzero Address x d)
+
+-- a refusal's number is the same, whatever was asked for
+pub refusal-same : (x : MemoryError) → number_of {A = Address} (Err x) ≡ number_of {A = ℕ} (Err x)
+refusal-same NoEntry = refl
+refusal-same InvalidEntry = refl
+refusal-same NoMemory = refl
+refusal-same InvalidRequest = refl
+
+module _ (n : ℕ) (s : HolderAllocator) (w : Whose) (c : Counted) (is : c ≡ held_of n s w) (m : ℕ) (number : m ≡ number_of c) where
   number_is : m ≡ number_of (asked_of n s w)
   unfolding held_of
-  number_is = number ∙ ap (λ (x : Counted). number_of x.answer) is ∙ held-is (asked_of n s w) (sum (found w s.register.entries))
+  number_is = number ∙ ap number_of is ∙ held-is (asked_of n s w) (sum (found w s.register.entries))
 
-  small-number : (k : Answer) → number_of k < 2 ^ 64
-  small-number (Accepted a) = omega arith
-  small-number NoEntry = omega arith
-  small-number InvalidEntry = omega arith
-  small-number NoMemory = omega arith
-  small-number InvalidRequest = omega arith
+  small-number : (k : Counted) → number_of k < 2 ^ 64
+  small-number (Ok a) = omega arith
+  small-number (Err NoEntry) = omega arith
+  small-number (Err InvalidEntry) = omega arith
+  small-number (Err NoMemory) = omega arith
+  small-number (Err InvalidRequest) = omega arith
 
   pub refused_says : (out o : List ℕ) (at r : ℕ) → m ≢ 0 → Puts (no_text m) out at o r → PutsWithin (room n) (held_text n s w) out at o r
   unfolding held_text
   refused_says out o at r h p =
-      let f = (at-most-48 m 0 (subst (λ (x : ℕ). x < 2 ^ 64) (sym number) (small-number c.answer)) (omega arith)).3 in
+      let f = (at-most-48 m 0 (subst (λ (x : ℕ). x < 2 ^ 64) (sym number) (small-number c)) (omega arith)).3 in
       let q : PutsWithin (room n) (no_text m) out at o r = record { short = omega arith; puts = p } in
       subst (λ (t : List ℕ). PutsWithin (room n) t out at o r) (rw (← number_is, ne_eqb m 0 h)) q
 
@@ -110,26 +124,33 @@ module _ (n : ℕ) (s : HolderAllocator) (w : Whose) (c : Counted) (is : c ≡ h
     roomy : room_in s w hs ss ls ≡ true
     roomy = let e = few-listed in rw (le-leb (length q) (length hs) (omega arith), le-leb (length q) (length ss) (omega arith), le-leb (length q) (length ls) (omega arith))
 
-    pub count-is : d.value ≡ length q
-    unfolding listing_of asked
-    count-is = let e : d ≡ counted (length q) = l.answer ∙ rw (roomy, asked-zero) in ap (λ (x : Counted). x.value) e
+    pub counts : d ≡ counted (length q)
+    unfolding listing_of
+    counts = l.answer ∙ asked-is (asked_of n s w) _ (sym number_is ∙ zero_is) ∙ rw roomy
 
-    pub bytes-are : c.value ≡ sum (found w s.register.entries)
-    unfolding held_of asked
-    bytes-are = let e : c ≡ counted (sum (found w s.register.entries)) = is ∙ rw asked-zero in ap (λ (x : Counted). x.value) e
+    pub count-is : value_of d ≡ length q
+    count-is = ap value_of counts
+
+    pub bytes-are : value_of c ≡ sum (found w s.register.entries)
+    unfolding held_of
+    bytes-are = ap value_of (is ∙ asked-is (asked_of n s w) _ (sym number_is ∙ zero_is))
 
     shows : (key : Range → ℕ) (old : List ℕ) → shown_of key n s w (room_in s w hs ss ls) old ≡ map key q ++ drop (length (map key q)) old
     unfolding shown_of
     shows key old = rw (roomy, asked-zero)
 
-    table_is : held_text n s w ≡ held_table d.value c.value hs' ss' ls'
+    table_is : held_text n s w ≡ held_table (value_of d) (value_of c) hs' ss' ls'
     unfolding held_text ranges_text held_table
     table_is = rw (asked-zero, count-is, bytes-are, l.holders-now ∙ shows holder_of hs, l.starts-now ∙ shows start_of ss, l.lasts_now ∙ shows last_of ls)
         (ap (λ (t : List ℕ). head_text (length q) (sum (found w s.register.entries)) ++ t) (sym (rows-ranges q _ _ _)))
 
-    pub table-says : (out o : List ℕ) (at r : ℕ) → 2 * entries ≤ n → PutsWithin (row * (d.value + 1)) (held_table d.value c.value hs' ss' ls') out at o r → PutsWithin (room n) (held_text n s w) out at o r
+    pub table-says : (out o : List ℕ) (at r : ℕ) → 2 * entries ≤ n → PutsWithin (row * (value_of d + 1)) (held_table (value_of d) (value_of c) hs' ss' ls') out at o r → PutsWithin (room n) (held_text n s w) out at o r
     table-says out o at r big p =
         let e = few-listed in
         let f = count-is in
         let h = p.short in
         subst (λ (t : List ℕ). PutsWithin (room n) t out at o r) (sym table_is) (record { short = omega arith; puts = p.puts })
+
+-- what a listing answers is what the match found it to be
+pub listed-as : (n : ℕ) (s : HolderAllocator) (w : Whose) (hs ss ls hs' ss' ls' : List ℕ) (d d' : Counted) → d ≡ d' → Lists n s w hs ss ls d hs' ss' ls' → Lists n s w hs ss ls d' hs' ss' ls'
+listed-as n s w hs ss ls hs' ss' ls' d d' e l = subst (λ (k : Counted). Lists n s w hs ss ls k hs' ss' ls') e l

@@ -21,8 +21,7 @@ use Rattle.holder_words.specs.Words.{entries_in}
 use Rattle.holder_rules.specs.States.{is_sound_lem}
 use Rattle.holder_rules.specs.declared.HolderAllocator.{HolderAllocator}
 use Rattle.holder_check.proofs.Exact.{sound←}
-use Rattle.holder_serve.specs.Made.{requested, made}
-use Rattle.holder_serve.specs.declared.HolderAnswer.{HolderAnswer}
+use Rattle.holder_serve.specs.Made.{HolderAnswer, requested, made}
 use Rattle.holder_serve.specs.declared.HolderOutcome.{HolderOutcome}
 use Rattle.holder_serve.specs.declared.HolderRequest.{HolderRequest}
 use Rattle.holder_lists.specs.declared.Whose.{Whose}

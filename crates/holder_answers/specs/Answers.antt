@@ -11,8 +11,7 @@ use Rattle.holder_rules.specs.States.{holding_of}
 use Rattle.holder_rules.specs.declared.Entry.{Entry}
 use Rattle.holder_rules.specs.declared.HolderAllocator.{HolderAllocator}
 use Rattle.holder_laws.specs.Demand.{SoundHolding}
-use Rattle.holder_serve.specs.Made.{requested, made}
-use Rattle.holder_serve.specs.declared.HolderAnswer.{HolderAnswer}
+use Rattle.holder_serve.specs.Made.{HolderAnswer, requested, made}
 use Rattle.holder_serve.specs.declared.HolderRequest.{HolderRequest}
 use Rattle.holder_lists.specs.Whose.{found, ranges}
 use Rattle.holder_lists.specs.Accounts.{asked_of}

@@ -132,25 +132,17 @@ fn put_holdings(s: HolderAllocator, whose: Whose, out: &mut [u8], at: usize) -> 
     requires { at + room pool ≤ length out.old }
     ensures { PutsWithin (room pool) (held_text pool s whose) (was out) at (is out) result }
 {
-    let counted = held(s, whose);
-    let answer = counted.answer;
-    let number = number_of(answer);
-    if number != 0 {
-        return put_no(out, at, number);
-    }
+    let bytes = match held(s, whose) {
+        Ok(bytes) => bytes,
+        Err(error) => return put_no(out, at, number_of(Err(error))),
+    };
     let mut holders = [0; ENTRIES];
     let mut starts = [0; ENTRIES];
     let mut lasts = [0; ENTRIES];
-    let listed = holdings(s, whose, &mut holders, &mut starts, &mut lasts);
-    put_held(
-        out,
-        at,
-        &holders,
-        &starts,
-        &lasts,
-        listed.value,
-        counted.value,
-    )
+    match holdings(s, whose, &mut holders, &mut starts, &mut lasts) {
+        Ok(count) => put_held(out, at, &holders, &starts, &lasts, count, bytes),
+        Err(error) => put_no(out, at, number_of(Err(error))),
+    }
 }
 
 // The call is made, and its answer printed. The place after its text.

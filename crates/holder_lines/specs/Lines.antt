@@ -1,7 +1,6 @@
 -- A line of the script after a first line `holders`: `o start size`, `a holder size order`, `r holder start size order`, `f holder start size`, `h holder`, `h`, `l`,
 -- at most 80 bytes; any other line is bad. Assumes nothing.
-use Rattle.std.specs.Prelude.{ℕ, cond, List, [], ◌∷◌, eqb}
-use Rattle.std.proofs.Math.Option.{Option}
+use Rattle.std.specs.Prelude.{ℕ, cond, List, [], ◌∷◌, eqb, Option}
 use Rattle.calls.specs.declared.Request.{Request}
 use Rattle.calls.specs.declared.Request.TheVariants.{Free, Allocate, Reserve}
 use Rattle.holder_lists.specs.declared.Whose.TheVariants.{All, One}
@@ -11,7 +10,7 @@ use Rattle.holder_lines.specs.declared.HolderLine.{HolderLine}
 use Rattle.holder_lines.specs.declared.HolderLine.TheVariants as Say
 
 -- a holder's call
-abbrev by : ℕ → Request → HolderLine
+abbrev pub by : ℕ → Request → HolderLine
 by h q = Say.Asks (asks.By (record { 0 = h }) q)
 
 -- a letter and its numbers: 97 is `a`, 102 `f`, 104 `h`, 108 `l`, 111 `o`, 114 `r`

@@ -1,11 +1,11 @@
 -- The text of the answer to a call of the register, and of the held ranges in three arrays. Assumes nothing.
-use Rattle.std.specs.Prelude.{ℕ, zero, suc, List, [], ◌∷◌, ◌++◌, get_or}
+use Rattle.std.specs.Prelude.{ℕ, zero, suc, List, [], ◌∷◌, ◌++◌, get_or, Ok, Err}
 use Rattle.calls.specs.declared.Request.{Request}
 use Rattle.calls.specs.declared.Request.TheVariants.{Free}
 use Rattle.script_texts.specs.Answers.{digits_of, no_text, range_text}
 use Rattle.script_replies.specs.Replies.{reply_text}
-use Rattle.holder_serve.specs.declared.HolderAnswer.{HolderAnswer}
-use Rattle.holder_serve.specs.declared.HolderAnswer.TheVariants.{Memory, NotYours, RegisterFull}
+use Rattle.holder_serve.specs.Made.{HolderAnswer}
+use Rattle.holder_serve.specs.declared.HolderError.TheVariants.{Memory, NotYours, RegisterFull}
 use Rattle.holder_serve.specs.declared.HolderRequest.{HolderRequest}
 use Rattle.holder_serve.specs.declared.HolderRequest.TheVariants as asks
 
@@ -16,9 +16,10 @@ below_of (asks.By h q) = q
 
 -- the allocator's answer to it, or `no` with 5 or 6
 unfoldable pub holder_reply : HolderRequest → HolderAnswer → List ℕ
-holder_reply q (Memory k) = reply_text (below_of q) k
-holder_reply q NotYours = no_text 5
-holder_reply q RegisterFull = no_text 6
+holder_reply q (Ok a) = reply_text (below_of q) (Ok a)
+holder_reply q (Err (Memory e)) = reply_text (below_of q) (Err e)
+holder_reply q (Err NotYours) = no_text 5
+holder_reply q (Err RegisterFull) = no_text 6
 
 -- ---- lists
 

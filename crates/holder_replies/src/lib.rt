@@ -9,7 +9,7 @@ ghost use Rattle.holder_replies.specs.Replies.{below_of, holder_reply, row, head
 
 use calls::Request;
 use holder_rules::ENTRIES;
-use holder_serve::{HolderAnswer, HolderRequest};
+use holder_serve::{HolderAnswer, HolderError, HolderRequest};
 use script_replies::put_reply;
 use script_texts::{put_bytes, put_no, put_number, put_range};
 
@@ -37,9 +37,12 @@ pub fn put_holder_reply(
     ensures { PutsWithin line (holder_reply request answer) (was out) at (is out) result }
 {
     match answer {
-        HolderAnswer::Memory(k) => put_reply(request_below(request), k, out, at),
-        HolderAnswer::NotYours => put_no(out, at, NOT_YOURS),
-        HolderAnswer::RegisterFull => put_no(out, at, REGISTER_FULL),
+        Ok(address) => put_reply(request_below(request), Ok(address), out, at),
+        Err(HolderError::Memory(error)) => {
+            put_reply(request_below(request), Err(error), out, at)
+        }
+        Err(HolderError::NotYours) => put_no(out, at, NOT_YOURS),
+        Err(HolderError::RegisterFull) => put_no(out, at, REGISTER_FULL),
     }
 }
 
@@ -76,10 +79,8 @@ pub fn put_held(
     ensures { PutsWithin (row * (count + 1)) (held_table count bytes holders.now starts.now lasts.now) (was out) at (is out) result }
 {
     let mut next = put_head(out, at, count, bytes);
-    let mut i = 0;
-    while i < count as usize {
+    for i in 0..count as usize {
         next = put_row(out, next, holders[i], starts[i], lasts[i]);
-        i += 1;
     }
     next
 }

@@ -36,7 +36,7 @@ fn put_verdict(out: &mut [u8], verdict: Verdict) -> usize
 pub fn report(mut streams: Streams, verdict: Verdict) {
     let mut out = [0u8; 64];
     let end = put_verdict(&mut out, verdict);
-    write_all(
+    let _ = write_all(
         &mut streams.output,
         &mut streams.errors,
         &out[..end],
@@ -94,8 +94,7 @@ fn put_answer(out: &mut [u8], at: usize, bits: u64) -> usize
 fn put_entry(out: &mut [u8], entry: Entry) -> usize
     ensures { result ≤ length (is out) }
 {
-    let request = entry.request;
-    let at = put_call(out, request);
+    let at = put_call(out, entry.request);
     put_answer(out, at, entry.answer)
 }
 
@@ -109,7 +108,7 @@ pub fn print_entry(mut streams: Streams, entry: Entry) -> bool {
         &out[..end],
         b"failed: the calls cannot be written",
     );
-    !written.failed
+    written.is_ok()
 }
 
 // The bytes of the buffer from `from` to `to` go to its front.
@@ -117,10 +116,6 @@ pub fn shift(buf: &mut [u8], from: usize, to: usize) -> usize
     requires { (from ≤ to) × (to ≤ length buf.old) }
     ensures { result ≡ to - from }
 {
-    let mut i = from;
-    while i < to {
-        buf[i - from] = buf[i];
-        i += 1;
-    }
+    buf.copy_within(from..to, 0);
     to - from
 }

@@ -1,7 +1,7 @@
 // The program that records a journal: the calls of a script, played from empty, each with its answer as a block.
 #![tactic(auto)]
 
-ghost use Rattle.std.specs.Prelude.{◌≡◌, ◌<◌, ◌≤◌, length};
+ghost use Rattle.std.specs.Prelude.{◌≡◌, ◌<◌, ◌≤◌, IfSome, length};
 ghost use Rattle.pool_state.specs.Lent.{is};
 ghost use Rattle.record.specs.Taping.{Placed};
 
@@ -9,7 +9,7 @@ use calls::Outcome;
 use journal_blocks::{Entry, answer_bits, begin, write_block};
 use memory_allocator::{MemoryAllocator, new, serve};
 use script_chunks::hold;
-use script_lines::find::{Found, find_newline};
+use script_lines::find::find_newline;
 use script_lines::parse::{Line, parse_line};
 use streams::{Streams, read_some, write_all};
 
@@ -19,14 +19,13 @@ const KEPT: usize = 81;
 const LONGEST: usize = 35;
 
 // The state; how many bytes of the carry belong to the line that has not ended; the next place in the chunk; the place after what is in
-// the output; whether a read or a write has failed, or the input has ended.
+// the output.
 #[derive(Clone, Copy)]
 pub struct Taping {
     pub state: MemoryAllocator,
     pub held: usize,
     pub from: usize,
     pub at: usize,
-    pub over: bool,
 }
 
 // The state that a line leaves, and the place after its block.
@@ -44,15 +43,13 @@ fn tape_line(s: MemoryAllocator, line: &[u8], out: &mut [u8], at: usize) -> Tape
     match parse_line(line) {
         Line::Asks(request) => {
             let made: Outcome = serve(s, request);
-            let answer = made.answer;
-            let state = made.state;
             let entry = Entry {
-                request: request,
-                answer: answer_bits(answer),
+                request,
+                answer: answer_bits(made.answer),
             };
             let next = write_block(out, at, entry);
             Taped {
-                state: state,
+                state: made.state,
                 at: next,
             }
         }
@@ -68,13 +65,11 @@ fn tape_ended(t: Taping, carry: &mut [u8], chunk: &[u8], end: usize, out: &mut [
 {
     let held = hold(carry, t.held, chunk, t.from, end);
     let taped = tape_line(t.state, &carry[..held], out, t.at);
-    let state = taped.state;
     Taping {
-        state: state,
+        state: taped.state,
         held: 0,
         from: end + 1,
         at: taped.at,
-        over: false,
     }
 }
 
@@ -85,13 +80,11 @@ fn tape_rest(t: Taping, carry: &mut [u8], chunk: &[u8]) -> Taping
 {
     let end = chunk.len();
     let held = hold(carry, t.held, chunk, t.from, end);
-    let state = t.state;
     Taping {
-        state: state,
-        held: held,
+        state: t.state,
+        held,
         from: end,
         at: t.at,
-        over: false,
     }
 }
 
@@ -100,95 +93,88 @@ fn tape_next(t: Taping, carry: &mut [u8], chunk: &[u8], out: &mut [u8]) -> Tapin
     requires { Placed t carry.old out.old × (t.from < length chunk.now) }
     ensures { Placed result (is carry) (is out) × (t.from < result.from) × (result.from ≤ length chunk.now) }
 {
-    let from = t.from;
-    match find_newline(chunk, from, chunk.len()) {
-        Found::At(end) => tape_ended(t, carry, chunk, end, out),
-        Found::Nothing => tape_rest(t, carry, chunk),
+    match find_newline(chunk, t.from, chunk.len()) {
+        Some(end) => tape_ended(t, carry, chunk, end, out),
+        None => tape_rest(t, carry, chunk),
     }
 }
 
-// What is in the output is handed to the writer.
-fn flush(mut streams: Streams, t: Taping, out: &[u8]) -> Taping
+// What is in the output is handed to the writer. None: that has failed.
+fn flush(mut streams: Streams, t: Taping, out: &[u8]) -> Option<Taping>
     requires { t.at ≤ length out.now }
-    ensures { (result.at ≡ 0) × (result.held ≡ t.held) × (result.from ≡ t.from) }
+    ensures { IfSome result (λ (r : Taping). (r.at ≡ 0) × (r.held ≡ t.held) × (r.from ≡ t.from)) }
 {
-    let at = t.at;
     let written = write_all(
         &mut streams.output,
         &mut streams.errors,
-        &out[..at],
+        &out[..t.at],
         b"failed: the journal cannot be written",
     );
-    let state = t.state;
-    Taping {
-        state: state,
+    if written.is_err() {
+        return None;
+    }
+    Some(Taping {
+        state: t.state,
         held: t.held,
         from: t.from,
         at: 0,
-        over: written.failed,
-    }
+    })
 }
 
-// There is room for a block.
-fn with_room(streams: Streams, t: Taping, out: &[u8]) -> Taping
+// There is room for a block. None: a write has failed.
+fn with_room(streams: Streams, t: Taping, out: &[u8]) -> Option<Taping>
     requires { t.at ≤ length out.now }
-    ensures { (result.at ≤ t.at) × (result.held ≡ t.held) × (result.from ≡ t.from) }
+    ensures { IfSome result (λ (r : Taping). (r.at ≤ t.at) × (r.held ≡ t.held) × (r.from ≡ t.from)) }
 {
     if out.len() - t.at < LONGEST {
         return flush(streams, t, out);
     }
-    t
+    Some(t)
 }
 
-// Every line of a chunk.
-fn tape_chunk(streams: Streams, t: Taping, carry: &mut [u8], chunk: &[u8], out: &mut [u8]) -> Taping
+// Every line of a chunk. None: a write has failed.
+fn tape_chunk(
+    streams: Streams,
+    t: Taping,
+    carry: &mut [u8],
+    chunk: &[u8],
+    out: &mut [u8],
+) -> Option<Taping>
     requires { Placed t carry.old out.old }
-    ensures { Placed result (is carry) (is out) }
+    ensures { IfSome result (λ (r : Taping). Placed r (is carry) (is out)) }
 {
     let mut s = t;
-    while !s.over && s.from < chunk.len() {
+    while s.from < chunk.len() {
         let next = tape_next(s, carry, chunk, out);
-        s = with_room(streams, next, out);
+        s = with_room(streams, next, out)?;
     }
-    s
+    Some(s)
 }
 
 // The input has ended: a line that no newline ends is recorded too.
-fn close(streams: Streams, t: Taping, carry: &[u8], out: &mut [u8]) -> Taping
+fn close(streams: Streams, t: Taping, carry: &[u8], out: &mut [u8])
     requires { Placed t carry.now out.old }
-    ensures { (result.held ≡ 0) × (result.at ≡ 0) }
 {
-    let held = t.held;
-    let taped = tape_line(t.state, &carry[..held], out, t.at);
-    let state = taped.state;
+    let taped = tape_line(t.state, &carry[..t.held], out, t.at);
     let last = Taping {
-        state: state,
+        state: taped.state,
         held: 0,
         from: 0,
         at: taped.at,
-        over: true,
     };
-    let done = flush(streams, last, out);
-    let left = done.state;
-    Taping {
-        state: left,
-        held: 0,
-        from: 0,
-        at: 0,
-        over: true,
-    }
+    let _ = flush(streams, last, out);
 }
 
-// A chunk is read and recorded.
+// A chunk is read and recorded. None: the input has ended, or a read or a write has failed.
 fn turn(
     mut streams: Streams,
     t: Taping,
     carry: &mut [u8],
     chunk: &mut [u8],
     out: &mut [u8],
-) -> Taping
+) -> Option<Taping>
     requires { Placed t carry.old out.old }
-    ensures { Placed result (is carry) (is out) }
+    ensures { IfSome result (λ (r : Taping). Placed r (is carry) (is out)) }
 {
     let read = read_some(
         &mut streams.input,
@@ -196,26 +182,18 @@ fn turn(
         chunk,
         b"failed: standard input cannot be read",
     );
-    let count = read.bytes;
-    let state = t.state;
-    if read.failed {
-        return Taping {
-            state: state,
-            held: 0,
-            from: 0,
-            at: 0,
-            over: true,
-        };
-    }
+    let Ok(count) = read else {
+        return None;
+    };
     if count == 0 {
-        return close(streams, t, carry, out);
+        close(streams, t, carry, out);
+        return None;
     }
     let fresh = Taping {
-        state: state,
+        state: t.state,
         held: t.held,
         from: 0,
         at: t.at,
-        over: false,
     };
     tape_chunk(streams, fresh, carry, &chunk[..count], out)
 }
@@ -228,12 +206,12 @@ fn record_all(streams: Streams, carry: &mut [u8], chunk: &mut [u8], out: &mut [u
         held: 0,
         from: 0,
         at: first,
-        over: false,
     };
-    let mut turns = u64::MAX;
-    while !t.over && turns > 0 {
-        t = turn(streams, t, carry, chunk, out);
-        turns -= 1;
+    for _ in 0..u64::MAX {
+        match turn(streams, t, carry, chunk, out) {
+            Some(next) => t = next,
+            None => return,
+        }
     }
 }
 

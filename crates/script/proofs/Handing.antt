@@ -1,20 +1,11 @@
 -- What is handed to the writer, and what a turn makes of it. Assumes nothing.
-use Rattle.std.proofs.Common.{◌≡◌, ℕ, ◌≤◌, Bool, true, false, List, refl, sym, ap, ◌∙◌, subst, length, take, arith}
-use lib.Seq.{length-take-le}
+use Rattle.std.proofs.Common.{◌≡◌, ℕ, true, false, List, ap, subst, take}
 use Rattle.script_forms.specs.Forms.{Desk}
 use Rattle.script_chunks.specs.Input.{Hears, Closes}
 use Rattle.script_chunks.specs.declared.Reading.{Reading}
-use Rattle.streams.specs.Streams.{Writes}
-use Rattle.streams.specs.declared.Written.{Written}
-use Rattle.script_sessions.specs.Sessions.{fresh, HandsOver, Answered, Closed}
+use Rattle.script_sessions.specs.Sessions.{fresh, Answered, Closed}
 use Rattle.script_sessions.specs.declared.Session.{Session}
 use Rattle.script.specs.Program.{Handed}
-
-pub handed-by : (r : Reading) (k : ℕ) (e : Bool) (w : Written) (out : List ℕ) → r.at ≤ length out → Writes w (length (take r.at out))
-    → Handed r k e (record { reading = r; count = k; taken = w.bytes; ended = e; failed = w.failed })
-handed-by r k e w out h v =
-    let size = length-take-le r.at out h in
-    record { reading = refl; hands = record { whole = λ f. v.whole f ∙ size; part = λ f. (let p = v.part f in omega arith) }; count = refl; ended = refl }
 
 module _ (n : ℕ) (m : Desk) (s : Session) (carry out : List ℕ) (m' : Desk) (s' : Session) (out' : List ℕ) where
   pub closed-by : (r : Reading) (at : ℕ) → r ≡ fresh s.reading 0 → Closes n m r carry out m' at out'

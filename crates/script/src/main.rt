@@ -25,19 +25,22 @@ fn hand_over(mut streams: Streams, r: Reading, count: usize, ended: bool, out: &
     requires { r.at ≤ length out.now }
     ensures { Handed r count ended result }
 {
-    let at = r.at;
     let written = write_all(
         &mut streams.output,
         &mut streams.errors,
-        &out[..at],
+        &out[..r.at],
         b"failed: the answers cannot be written",
     );
+    let (taken, failed) = match written {
+        Ok(()) => (r.at, false),
+        Err(unwritten) => (unwritten.taken, true),
+    };
     Session {
         reading: r,
-        count: count,
-        taken: written.bytes,
-        ended: ended,
-        failed: written.failed,
+        count,
+        taken,
+        ended,
+        failed,
     }
 }
 
@@ -163,10 +166,9 @@ fn turn(
         chunk,
         b"failed: standard input cannot be read",
     );
-    let count = read.bytes;
-    if read.failed {
+    let Ok(count) = read else {
         return restarted(s, 0, true);
-    }
+    };
     if count == 0 {
         return close(
             streams, total, first, heads, start, end, enabled, previous, next, lprev, lnext, forms,
@@ -194,8 +196,10 @@ fn answer_all(streams: Streams, carry: &mut [u8], chunk: &mut [u8], out: &mut [u
     let mut forms: u8 = OPEN;
     let mut words = [0u64; WORDS];
     let mut session = begun();
-    let mut turns = u64::MAX;
-    while goes_on(session) && turns > 0 {
+    for _turns in 0..u64::MAX {
+        if !goes_on(session) {
+            return session;
+        }
         session = turn(
             streams,
             &mut total,
@@ -215,7 +219,6 @@ fn answer_all(streams: Streams, carry: &mut [u8], chunk: &mut [u8], out: &mut [u
             chunk,
             out,
         );
-        turns -= 1;
     }
     session
 }

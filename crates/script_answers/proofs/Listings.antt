@@ -1,5 +1,6 @@
 -- The listing of a state, printed from what the links lead along. Assumes nothing.
 use mathlib.Core.Path.{◌≡◌, refl, sym, ap, ◌∙◌}
+use Rattle.std.specs.Prelude.{Option, None, Some}
 use mathlib.Core.List.{List, [], ◌∷◌, ◌++◌, map, append_assoc, append-nil}
 use Prim.Native.Nat.{ℕ, zero, suc, ◌+◌, ◌*◌, ◌<◌, ◌≤◌}
 use native.Mathlib.Omega.{arith}
@@ -8,8 +9,6 @@ use lib.ListN.{length, drop, get_or}
 use Rattle.rules.specs.Rules.{Range, start_of}
 use Rattle.pool_chain.specs.Chain.{Ordered}
 use Rattle.pool_listing.specs.Listing.{last_of, listed_of, shown, Lists}
-use Rattle.pool_listing.specs.declared.Listed.{Listed}
-use Rattle.pool_listing.specs.declared.Listed.TheVariants.{Count, Short}
 use Rattle.pool_listing.proofs.Walk.{few}
 use Rattle.script_texts.specs.Answers.{range_text, list_text}
 use Rattle.script_replies.specs.Replies.{line, rows, table_text, PutsWithin}
@@ -33,15 +32,15 @@ module _ (n : ℕ) (c : List Range) (start end next : List ℕ) (first : ℕ) (o
   chain-few = few n c o.runs.listed
 
   -- two slices of n places
-  module _ (starts lasts starts' lasts' : List ℕ) (r : Listed) (l : Lists c starts lasts r starts' lasts') (ls : length starts ≡ n) (ll : length lasts ≡ n) where
-    listed : r ≡ Count (length c)
+  module _ (starts lasts starts' lasts' : List ℕ) (r : Option ℕ) (l : Lists c starts lasts r starts' lasts') (ls : length starts ≡ n) (ll : length lasts ≡ n) where
+    listed : r ≡ Some (length c)
     unfolding listed_of
     listed = l.answer ∙ rw (ls, ll, le-ltb n (length c) chain-few)
 
-    pub not_short : r ≡ Short → ⊥
+    pub not_short : r ≡ None → ⊥
     not_short e = let z = sym listed ∙ e in let w : ◌≡◌ {A = ℕ} 0 1 = cc in let v : ⊥ = omega arith in v
 
-    module _ (k : ℕ) (is : r ≡ Count k) where
+    module _ (k : ℕ) (is : r ≡ Some k) where
       pub count-is : k ≡ length c
       count-is = let e = sym is ∙ listed in cc
 

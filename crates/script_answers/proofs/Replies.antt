@@ -15,9 +15,8 @@ use Rattle.pool_state.proofs.Book.{holds-sound, sound-holds}
 use Rattle.pool_chain.specs.Chain.{Ordered}
 use Rattle.pool_chain.proofs.Held.{chain-ordered}
 use Rattle.check_meaning.proofs.Exact.{sound-sized, sound-passes}
-use Rattle.calls.specs.Calls.{call_of}
+use Rattle.calls.specs.Calls.{Answer, call_of}
 use Rattle.calls.specs.Answers as in_place
-use Rattle.calls.specs.declared.Answer.{Answer}
 use Rattle.calls.specs.declared.Outcome.{Outcome}
 use Rattle.calls.specs.declared.Request.{Request}
 use Rattle.core_serve.specs.Made.{made}

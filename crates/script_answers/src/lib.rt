@@ -12,7 +12,7 @@ ghost use Rattle.script_replies.specs.Replies.{PutsWithin};
 
 use call_serve::serve_in;
 use calls::Request;
-use pool_listing::{Listed, list_in};
+use pool_listing::list_in;
 use pool_state::{LISTS, POOL, RecordIndex};
 use script_lines::parse::{Line, parse_line};
 use script_replies::{ROOM, put_reply, put_table};
@@ -70,8 +70,8 @@ pub fn put_listing(
     let mut starts = [0; POOL];
     let mut lasts = [0; POOL];
     match list_in(start, end, next, first, &mut starts, &mut lasts) {
-        Listed::Count(count) => put_table(out, at, &starts, &lasts, count as u64, total),
-        Listed::Short => at,
+        Some(count) => put_table(out, at, &starts, &lasts, count as u64, total),
+        None => at,
     }
 }
 

@@ -1,13 +1,15 @@
 -- The line that is held: the first bytes of it, in the first places of the carry. Assumes nothing.
 use mathlib.Core.Path.{◌≡◌, refl, sym, ap, ◌∙◌}
+use mathlib.Core.Bool.{Bool, true, false}
 use mathlib.Core.List.{List, [], ◌∷◌, ◌++◌, append_assoc, append-nil}
-use Prim.Native.Nat.{ℕ, zero, suc, ◌+◌, ◌-◌, ◌<◌, ◌≤◌}
-use native.Mathlib.Numerals.{add-one}
+use Prim.Native.Nat.{ℕ, zero, suc, ◌+◌, ◌-◌, ◌≤◌, min}
 use native.Mathlib.Omega.{arith}
-use lib.ListN.{length, take, drop, set, get_or, length-drop, length-set}
-use lib.Seq.{length-take-le, take_all, take_at, take-suc, take-suc-set, get_or-drop}
+use lib.ListN.{length, take, drop, length-take, length-drop, length-append}
+use lib.Dec.{ltb}
+use borrow.Author.Tests.{ltb-true, ltb-false}
+use lib.Seq.{length-take-le, take-take, take_all, take_at, take-append-add, drop-drop}
+use borrow.Rule.Slice.PartMut.{put_mid}
 use Rattle.script_chunks.specs.Input.{between, Holds, Joins}
-use Rattle.script_chunks.proofs.Hearing.{between_split}
 
 -- ---- what is held is enough
 
@@ -25,59 +27,41 @@ carried p l carry carry' held r h j =
 
 -- ---- the bytes that join it
 
-pub record Partly (chunk carry₀ : List ℕ) (held from to : ℕ) (carry : List ℕ) (count i : ℕ) : Type 0 where
-  pub low : from ≤ i
-  pub high : i ≤ to
-  pub size : length carry ≡ length carry₀
-  pub within : count ≤ length carry₀
-  pub bytes : take count carry ≡ take held carry₀ ++ between from i chunk
+-- the first of a list's first places
+take-less : (m k n : ℕ) (l : List ℕ) → n ≡ min k m → take m (take k l) ≡ take n l
+take-less m k n l e = go (ltb m k) refl
+  where
+    go : (t : Bool) → ltb m k ≡ t → take m (take k l) ≡ take n l
+    go true is = let low = ltb-true m k is in let q : n ≡ m = omega arith in take-take m k l (omega arith) ∙ ap (λ (i : ℕ). take i l) (sym q)
+    go false is =
+        let high = ltb-false m k is in
+        let q : n ≡ k = omega arith in
+        take_all m (take k l) (simp length-take (omega arith)) ∙ ap (λ (i : ℕ). take i l) (sym q)
 
-module _ (chunk carry₀ : List ℕ) (held from to : ℕ) (h : held ≤ length carry₀) (k : to ≤ length chunk) where
-  pub partly_none : from ≤ to → Partly chunk carry₀ held from to carry₀ held from
-  partly_none g =
-      let e : from - from ≡ 0 = omega arith in
-      record { low = omega arith; high = g; size = refl; within = h; bytes = rw e (sym (append-nil (take held carry₀))) }
+-- as many bytes as there are, and as there is room for, are put behind those that are held
+pub joins-copied : (chunk carry carry' : List ℕ) (held from to n : ℕ) → held ≤ length carry → from ≤ to → to ≤ length chunk → n ≡ min (to - from) (length carry - held)
+    → carry' ≡ take held carry ++ (take n (drop from chunk) ++ drop (held + n) carry) → Joins (between from to chunk) carry held carry' (held + n)
+joins-copied chunk carry carry' held from to n h g k is e =
+    let first : List ℕ = take held carry in
+    let copied : List ℕ = take n (drop from chunk) in
+    let size-first : length first ≡ held = length-take-le held carry h in
+    let size-copied : length copied ≡ n = simp (length-take, length-drop) (omega arith) in
+    let both : length (first ++ copied) ≡ held + n = length-append first copied ∙ omega arith in
+    let room : length carry ≡ length first + (length carry - held) = omega arith in
+    let kept : take (length carry) (first ++ between from to chunk) ≡ first ++ copied =
+    ap (λ (i : ℕ). take i (first ++ between from to chunk)) room ∙ take-append-add first (between from to chunk) (length carry - held)
+    ∙ ap (λ (l : List ℕ). first ++ l) (take-less (length carry - held) (to - from) n (drop from chunk) is) in
+    record {
+      size = rw e (simp (length-append, length-take, length-drop) (omega arith));
+      within = omega arith;
+      bytes = rw e (rw (← append_assoc first copied (drop (held + n) carry)) (take_at (first ++ copied) (drop (held + n) carry) (held + n) both)) ∙ sym kept;
+    }
 
-  module _ (carry : List ℕ) (count i : ℕ) (w : Partly chunk carry₀ held from to carry count i) where
-    length-held : length (take held carry₀ ++ between from i chunk) ≡ count
-    length-held = ap length (sym w.bytes) ∙ length-take-le count carry (let a = w.within in let b = w.size in let z : count ≤ length carry = omega arith in z)
-
-    pub partly_more : i < to → count < length carry → Partly chunk carry₀ held from to (set carry count (get_or chunk i 0)) (count + 1) (i + 1)
-    partly_more g f =
-        let lo = w.low in
-        let s = w.size in
-        let e : i + 1 - from ≡ suc (i - from) = omega arith in
-        let a : from + (i - from) ≡ i = omega arith in
-        let d : i - from < length (drop from chunk) = simp length-drop (omega arith) in
-        let next : get_or (drop from chunk) (i - from) 0 ≡ get_or chunk i 0 = get_or-drop from chunk (i - from) 0 ∙ ap (λ (n : ℕ). get_or chunk n 0) a in
-        record {
-          low = omega arith;
-          high = omega arith;
-          size = simp length-set s;
-          within = omega arith;
-          bytes = rw (add-one count, take-suc-set carry count (get_or chunk i 0) f, w.bytes, e, take-suc (drop from chunk) (i - from) 0 d, next)
-              (append_assoc (take held carry₀) (between from i chunk) (get_or chunk i 0 ∷ []));
-        }
-
-    pub partly-full : length carry ≤ count → Joins (between from to chunk) carry₀ held carry count
-    partly-full g =
-        let s = w.size in
-        let c = w.within in
-        let m : length (take held carry₀ ++ between from i chunk) ≡ length carry₀ = length-held ∙ omega arith in
-        record {
-          size = s;
-          within = c;
-          bytes = w.bytes ∙ sym (rw (between_split from i to chunk w.low w.high, ← append_assoc (take held carry₀) (between from i chunk) (between i to chunk))
-              (take_at (take held carry₀ ++ between from i chunk) (between i to chunk) (length carry₀) m));
-        }
-
-    pub partly-all : to ≤ i → Joins (between from to chunk) carry₀ held carry count
-    partly-all g =
-        let e : i ≡ to = let hi = w.high in omega arith in
-        let c = w.within in
-        let m = length-held in
-        record {
-          size = w.size;
-          within = c;
-          bytes = w.bytes ∙ rw e (sym (take_all (length carry₀) (take held carry₀ ++ between from to chunk) (rw e at (let z : length (take held carry₀ ++ between from i chunk) ≤ length carry₀ = omega arith in z))));
-        }
+-- the same, as the copy leaves the carry
+pub joins-put : (chunk carry y : List ℕ) (held from to n : ℕ) → held ≤ length carry → from ≤ to → to ≤ length chunk → n ≡ min (to - from) (length carry - held)
+    → y ≡ take (from + n - from) (drop from chunk) → Joins (between from to chunk) carry held (put_mid held (held + n - held) carry y) (held + n)
+joins-put chunk carry y held from to n h g k is e =
+    let size : from + n - from ≡ n = omega arith in
+    let past : held + (held + n - held) ≡ held + n = omega arith in
+    let after : drop (held + n - held) (drop held carry) ≡ drop (held + n) carry = drop-drop (held + n - held) held carry ∙ ap (λ (i : ℕ). drop i carry) past in
+    joins-copied chunk carry (put_mid held (held + n - held) carry y) held from to n h g k is (rw (after, e, size))

@@ -7,9 +7,9 @@ use native.Mathlib.Omega.{arith}
 use lib.Dec.{eqb}
 use lib.ListN.{length, take, drop, length-take, length-drop}
 use lib.Seq.{take-take, take-add, drop-drop}
+use Rattle.std.specs.Prelude.{Some, None}
 use Rattle.script_forms.specs.Forms.{Desk, open_desk, says, leaves}
 use Rattle.script_lines.specs.Search.{first_from, first_in}
-use Rattle.script_lines.specs.declared.find.Found.TheVariants.{At, Nothing}
 use Rattle.script_chunks.specs.Input.{Told, silent, ends, joined, heard, between}
 
 -- the parts of an input may be heard one after the other
@@ -50,21 +50,21 @@ unfolding joined
 joined-more t a b = rw (append_assoc t.part a b)
 
 -- no newline: all of it belongs to the line
-pub quiet : (n : ℕ) (t : Told) (l : List ℕ) (i : ℕ) → first_from 10 i l ≡ Nothing → heard n t l ≡ joined t l
+pub quiet : (n : ℕ) (t : Told) (l : List ℕ) (i : ℕ) → first_from 10 i l ≡ None → heard n t l ≡ joined t l
 unfolding heard first_from
 quiet n t [] i e = sym (joined-none t)
 quiet n t (b ∷ l) i e = go (eqb b 10) (λ k. quiet n (joined t (b ∷ [])) l (suc i) k) e
   where
-    go : (c : Bool) → (first_from 10 (suc i) l ≡ Nothing → heard n (joined t (b ∷ [])) l ≡ joined (joined t (b ∷ [])) l)
-        → cond c (At i) (first_from 10 (suc i) l) ≡ Nothing → heard n (cond c (ends n t) (joined t (b ∷ []))) l ≡ joined t (b ∷ l)
+    go : (c : Bool) → (first_from 10 (suc i) l ≡ None → heard n (joined t (b ∷ [])) l ≡ joined (joined t (b ∷ [])) l)
+        → cond c (Some i) (first_from 10 (suc i) l) ≡ None → heard n (cond c (ends n t) (joined t (b ∷ []))) l ≡ joined t (b ∷ l)
     go true f k = absurd (let z : ◌≡◌ {A = ℕ} 0 1 = cc in let v : ⊥ = omega arith in v)
     go false f k = f k ∙ joined-more t (b ∷ []) l
 
 abbrev Ended : ℕ → Told → List ℕ → ℕ → ℕ → Type 0
 Ended n t l i j = (i ≤ j) × ((j - i < length l) × (heard n t (take (suc (j - i)) l) ≡ ends n (joined t (take (j - i) l))))
 
-ended-step : (c : Bool) (n : ℕ) (t : Told) (b : ℕ) (l : List ℕ) (i j : ℕ) → eqb b 10 ≡ c → (first_from 10 (suc i) l ≡ At j → Ended n (joined t (b ∷ [])) l (suc i) j)
-    → cond c (At i) (first_from 10 (suc i) l) ≡ At j → Ended n t (b ∷ l) i j
+ended-step : (c : Bool) (n : ℕ) (t : Told) (b : ℕ) (l : List ℕ) (i j : ℕ) → eqb b 10 ≡ c → (first_from 10 (suc i) l ≡ Some j → Ended n (joined t (b ∷ [])) l (suc i) j)
+    → cond c (Some i) (first_from 10 (suc i) l) ≡ Some j → Ended n t (b ∷ l) i j
 unfolding heard
 ended-step true n t b l i j is f e =
     let q : i ≡ j = cc in
@@ -76,12 +76,12 @@ ended-step false n t b l i j is f e =
     (omega arith, (omega arith, rw (z, is) (h.1.1 ∙ ap (ends n) (joined-more t (b ∷ []) (take (j - suc i) l)))))
 
 -- the first newline, at j, ends the line
-ended : (n : ℕ) (t : Told) (l : List ℕ) (i j : ℕ) → first_from 10 i l ≡ At j → Ended n t l i j
+ended : (n : ℕ) (t : Told) (l : List ℕ) (i j : ℕ) → first_from 10 i l ≡ Some j → Ended n t l i j
 unfolding first_from
 ended n t [] i j e = absurd (let z : ◌≡◌ {A = ℕ} 0 1 = cc in let v : ⊥ = omega arith in v)
 ended n t (b ∷ l) i j e = ended-step (eqb b 10) n t b l i j refl (λ k. ended n (joined t (b ∷ [])) l (suc i) j k) e
 
-module _ (n : ℕ) (chunk : List ℕ) (from end : ℕ) (h : from ≤ length chunk) (e : At end ≡ first_in 10 from (length chunk) chunk) where
+module _ (n : ℕ) (chunk : List ℕ) (from end : ℕ) (h : from ≤ length chunk) (e : Some end ≡ first_in 10 from (length chunk) chunk) where
   abbrev rest : List ℕ
   rest = between from (length chunk) chunk
 

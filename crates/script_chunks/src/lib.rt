@@ -10,7 +10,7 @@ ghost use Rattle.script_chunks.specs.Input.{Told, ends, joined, between, Joins, 
 use holder_words::WORDS;
 use pool_state::{LISTS, POOL};
 use script_forms::answer_any;
-use script_lines::find::{Found, find_newline};
+use script_lines::find::find_newline;
 
 // How many bytes of the carry belong to the line that has not ended; the next place in the chunk; the next in the output.
 #[derive(Clone, Copy)]
@@ -25,17 +25,9 @@ pub fn hold(carry: &mut [u8], held: usize, chunk: &[u8], from: usize, to: usize)
     requires { (held ≤ length carry.old) × (from ≤ to) × (to ≤ length chunk.now) }
     ensures { Joins (between from to chunk.now) (was carry) held (is carry) result }
 {
-    let mut count = held;
-    let mut i = from;
-    while i < to {
-        if carry.len() <= count {
-            return count;
-        }
-        carry[count] = chunk[i];
-        count += 1;
-        i += 1;
-    }
-    count
+    let count = (to - from).min(carry.len() - held);
+    carry[held..held + count].copy_from_slice(&chunk[from..from + count]);
+    held + count
 }
 
 // The line that the newline at `stop` ends is answered.
@@ -81,11 +73,7 @@ fn answer_ended(
         out,
         r.at,
     );
-    Reading {
-        held: 0,
-        from: from,
-        at: at,
-    }
+    Reading { held: 0, from, at }
 }
 
 // The rest of the chunk ends no line.
@@ -96,7 +84,7 @@ fn hold_rest(r: Reading, carry: &mut [u8], chunk: &[u8]) -> Reading
     let size = chunk.len();
     let held = hold(carry, r.held, chunk, r.from, size);
     Reading {
-        held: held,
+        held,
         from: size,
         at: r.at,
     }
@@ -126,11 +114,11 @@ pub fn answer_next(
     ensures { HearsIn pool r carry chunk.now out result forms words total first heads start end enabled previous next lprev lnext }
 {
     match find_newline(chunk, r.from, chunk.len()) {
-        Found::At(stop) => answer_ended(
+        Some(stop) => answer_ended(
             total, first, heads, start, end, enabled, previous, next, lprev, lnext, forms, words,
             r, carry, chunk, stop, out,
         ),
-        Found::Nothing => hold_rest(r, carry, chunk),
+        None => hold_rest(r, carry, chunk),
     }
 }
 

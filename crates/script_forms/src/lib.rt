@@ -4,7 +4,7 @@
 ghost use Rattle.std.specs.Prelude.{◌≡◌, ◌&&◌, ◌+◌, ◌≤◌, eqb, length};
 ghost use Rattle.pool_state.specs.Shown.{pool};
 ghost use Rattle.script_answers.specs.Script.{room};
-ghost use Rattle.script_forms.specs.Forms.{same, opens, SoundIn, RepliesIn};
+ghost use Rattle.script_forms.specs.Forms.{opens, SoundIn, RepliesIn};
 
 use holder_answers::answer_holder_line;
 use holder_words::WORDS;
@@ -18,28 +18,12 @@ const ALLOCATOR: u8 = 1;
 
 const REGISTER: u8 = 2;
 
-fn is_same(a: &[u8], b: &[u8]) -> bool
-    ensures { result ≡ same a.now b.now }
-{
-    if a.len() != b.len() {
-        return false;
-    }
-    let mut i = 0;
-    while i < a.len() {
-        if a[i] != b[i] {
-            return false;
-        }
-        i += 1;
-    }
-    true
-}
-
 // Whether the register's forms begin with this line.
 fn begins_register(forms: u8, line: &[u8]) -> bool
     ensures { result ≡ (eqb forms 0 && opens line.now) }
 {
     if forms == OPEN {
-        return is_same(line, b"holders");
+        return line == b"holders".as_slice();
     }
     false
 }

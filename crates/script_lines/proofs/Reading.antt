@@ -4,53 +4,52 @@ use mathlib.Core.Path.{◌≡◌, refl, sym, ◌∙◌, ap}
 use mathlib.Core.Bool.{Bool, true, false, cond}
 use mathlib.Core.List.{List, [], ◌∷◌}
 use mathlib.Core.Logic.{◌⊎◌, inl, inr, ⊎_elim}
-use mathlib.Core.Option.{Option, none, some}
 use Prim.Native.Nat.{ℕ, ◌+◌, ◌-◌, ◌≤◌, ◌<◌}
 use native.Mathlib.Omega.{arith}
 use lib.Dec.{eqb, ltb}
 use lib.ListN.{length, take, drop, get_or}
 use lib.Seq.{length-take-le, take_all}
 use borrow.Author.Tests.{le-leb, lt-leb, ltb-true, ltb-false, eq-eqb, ne_eqb, eqb-true}
+use Rattle.std.specs.Prelude.{Option, Some, None}
 use Rattle.script_lines.specs.Search.{first_in}
 use Rattle.script_lines.specs.Fields.{before, fields, leads, number_of, join, numbers_of}
 use Rattle.script_lines.specs.Forms.{spoken_in, fields_in, line_in}
-use Rattle.script_lines.specs.Steps.{number, first, field_end_lem, ended, field_at}
-use Rattle.script_lines.specs.declared.parse.Number.TheVariants as Num
-use Rattle.script_lines.specs.declared.parse.Field.TheVariants as Fld
+use Rattle.script_lines.specs.Steps.{first, field_end_lem, ended, field_at}
+use Rattle.script_lines.specs.declared.parse.Field.{Field}
 use Rattle.script_lines.proofs.Splits.{Ends, ends}
-use Rattle.script_lines.proofs.Numbers.{is_some, is_none, empty}
+use Rattle.script_lines.proofs.Numbers.{empty}
 
 -- ---- a field
 
 pub field-ends : (l : List ℕ) (at : ℕ) → Ends l at (field_end_lem l at)
 field-ends l at = ends l at (first_in 32 at (length l) l) refl
 
-pub past-line : (l : List ℕ) (at e : ℕ) → e ≡ field_end_lem l at → e < at → field_at l at ≡ Fld.Not
+pub past-line : (l : List ℕ) (at e : ℕ) → e ≡ field_end_lem l at → e < at → field_at l at ≡ None
 unfolding field_at fields number_of leads
 past-line l at e is h =
-    let none : drop at l ≡ [] = (field-ends l at).none (omega arith) in
-    ap (λ (m : List ℕ). ended (field_end_lem l at) (number_of (first (fields m)))) none
+    let empty-rest : drop at l ≡ [] = (field-ends l at).none (omega arith) in
+    ap (λ (m : List ℕ). ended (field_end_lem l at) (number_of (first (fields m)))) empty-rest
 
 module _ (l : List ℕ) (at e : ℕ) (is : e ≡ field_end_lem l at) (h : at ≤ e) where
   at_part : field_at l at ≡ ended e (number_of (take (e - at) (drop at l)))
   unfolding field_at
   at_part = rw is (ap (λ (f : List ℕ). ended (field_end_lem l at) (number_of f)) ((field-ends l at).part (omega arith)))
 
-  pub number-there : (n : ℕ) → number (number_of (take (e - at) (drop at l))) ≡ Num.Is n → field_at l at ≡ Fld.Is n e
-  number-there n r = at_part ∙ ap (ended e) (is_some (number_of (take (e - at) (drop at l))) n r)
+  pub number-there : (n : ℕ) → number_of (take (e - at) (drop at l)) ≡ Some n → field_at l at ≡ Some (record { value = n; end = e })
+  number-there n r = at_part ∙ ap (ended e) r
 
-  pub no-number-there : number (number_of (take (e - at) (drop at l))) ≡ Num.Not → field_at l at ≡ Fld.Not
-  no-number-there r = at_part ∙ ap (ended e) (is_none (number_of (take (e - at) (drop at l))) r)
+  pub no-number-there : number_of (take (e - at) (drop at l)) ≡ None → field_at l at ≡ None
+  no-number-there r = at_part ∙ ap (ended e) r
 
 -- ---- the numbers of the fields from a place on
 
-ended_is : (e : ℕ) (o : Option ℕ) (x i : ℕ) → ended e o ≡ Fld.Is x i → (o ≡ some x) × (e ≡ i)
-ended_is e none x i r = absurd (let z : ◌≡◌ {A = ℕ} 0 1 = cc in omega arith)
-ended_is e (some n) x i r = (cc, cc)
+ended_is : (e : ℕ) (o : Option ℕ) (x : Field) → ended e o ≡ Some x → (o ≡ Some x.value) × (e ≡ x.end)
+ended_is e None x r = absurd (let z : ◌≡◌ {A = ℕ} 0 1 = cc in omega arith)
+ended_is e (Some n) x r = let q : x ≡ record { value = n; end = e } = cc in (rw q, rw q)
 
-ended-not : (e : ℕ) (o : Option ℕ) → ended e o ≡ Fld.Not → o ≡ none
-ended-not e none r = refl
-ended-not e (some n) r = absurd (let z : ◌≡◌ {A = ℕ} 0 1 = cc in omega arith)
+ended-not : (e : ℕ) (o : Option ℕ) → ended e o ≡ None → o ≡ None
+ended-not e None r = refl
+ended-not e (Some n) r = absurd (let z : ◌≡◌ {A = ℕ} 0 1 = cc in omega arith)
 
 abbrev rest : List (List ℕ) → List (List ℕ)
 rest [] = []
@@ -70,93 +69,93 @@ abbrev numbers : List ℕ → ℕ → Option (List ℕ)
 numbers l at = numbers_of (fields (drop at l))
 
 module _ (l : List ℕ) (at : ℕ) where
-  stops : field_at l at ≡ Fld.Not → numbers l at ≡ none
+  stops : field_at l at ≡ None → numbers l at ≡ None
   unfolding field_at numbers_of
   stops p = ap numbers_of (some-field (drop at l)) ∙ rw (ended-not (field_end_lem l at) (number_of (first (fields (drop at l)))) p)
 
-  module _ (x i : ℕ) (p : field_at l at ≡ Fld.Is x i) where
-    last : length l ≤ i → numbers l at ≡ some (x ∷ [])
+  module _ (x : Field) (p : field_at l at ≡ Some x) where
+    last : length l ≤ x.end → numbers l at ≡ Some (x.value ∷ [])
     unfolding field_at numbers_of
     last h =
-        let q = ended_is (field_end_lem l at) (number_of (first (fields (drop at l)))) x i p in
+        let q = ended_is (field_end_lem l at) (number_of (first (fields (drop at l)))) x p in
         ap numbers_of ((field-ends l at).last (omega (arith, q.1))) ∙ rw q.0
 
-    goes_on : i < length l → numbers l at ≡ join (some x) (numbers l (i + 1))
+    goes_on : x.end < length l → numbers l at ≡ join (Some x.value) (numbers l (x.end + 1))
     unfolding field_at numbers_of
     goes_on h =
-        let q = ended_is (field_end_lem l at) (number_of (first (fields (drop at l)))) x i p in
+        let q = ended_is (field_end_lem l at) (number_of (first (fields (drop at l)))) x p in
         ap numbers_of ((field-ends l at).more (omega (arith, q.1))) ∙ rw (q.0, q.1)
 
 -- ---- a line in any forms
 
 module _ {A : Type 0} (said : ℕ → List ℕ → A) (bad : A) where
   module _ (c : ℕ) (l : List ℕ) (at : ℕ) where
-    pub none_read : field_at l at ≡ Fld.Not → spoken_in said bad c (numbers l at) ≡ bad
+    pub none_read : field_at l at ≡ None → spoken_in said bad c (numbers l at) ≡ bad
     unfolding spoken_in
     none_read p = ap (spoken_in said bad c) (stops l at p)
 
-    module _ (x i : ℕ) (p : field_at l at ≡ Fld.Is x i) where
-      pub one_number : length l ≤ i → spoken_in said bad c (numbers l at) ≡ said c (x ∷ [])
+    module _ (x : Field) (p : field_at l at ≡ Some x) where
+      pub one_number : length l ≤ x.end → spoken_in said bad c (numbers l at) ≡ said c (x.value ∷ [])
       unfolding spoken_in
-      one_number h = ap (spoken_in said bad c) (last l at x i p h)
+      one_number h = ap (spoken_in said bad c) (last l at x p h)
 
-      module _ (h : i < length l) where
-        pub one-read : field_at l (i + 1) ≡ Fld.Not → spoken_in said bad c (numbers l at) ≡ bad
+      module _ (h : x.end < length l) where
+        pub one-read : field_at l (x.end + 1) ≡ None → spoken_in said bad c (numbers l at) ≡ bad
         unfolding spoken_in
-        one-read q = ap (spoken_in said bad c) (goes_on l at x i p h ∙ ap (join (some x)) (stops l (i + 1) q))
+        one-read q = ap (spoken_in said bad c) (goes_on l at x p h ∙ ap (join (Some x.value)) (stops l (x.end + 1) q))
 
-        module _ (y j : ℕ) (q : field_at l (i + 1) ≡ Fld.Is y j) where
-          pub two-numbers : length l ≤ j → spoken_in said bad c (numbers l at) ≡ said c (x ∷ y ∷ [])
+        module _ (y : Field) (q : field_at l (x.end + 1) ≡ Some y) where
+          pub two-numbers : length l ≤ y.end → spoken_in said bad c (numbers l at) ≡ said c (x.value ∷ y.value ∷ [])
           unfolding spoken_in
-          two-numbers g = ap (spoken_in said bad c) (goes_on l at x i p h ∙ ap (join (some x)) (last l (i + 1) y j q g))
+          two-numbers g = ap (spoken_in said bad c) (goes_on l at x p h ∙ ap (join (Some x.value)) (last l (x.end + 1) y q g))
 
-          module _ (g : j < length l) where
-            two-more : numbers l at ≡ join (some x) (join (some y) (numbers l (j + 1)))
-            two-more = goes_on l at x i p h ∙ ap (join (some x)) (goes_on l (i + 1) y j q g)
+          module _ (g : y.end < length l) where
+            two-more : numbers l at ≡ join (Some x.value) (join (Some y.value) (numbers l (y.end + 1)))
+            two-more = goes_on l at x p h ∙ ap (join (Some x.value)) (goes_on l (x.end + 1) y q g)
 
-            pub two-read : field_at l (j + 1) ≡ Fld.Not → spoken_in said bad c (numbers l at) ≡ bad
+            pub two-read : field_at l (y.end + 1) ≡ None → spoken_in said bad c (numbers l at) ≡ bad
             unfolding spoken_in
-            two-read r = ap (spoken_in said bad c) (two-more ∙ ap (λ (o : Option (List ℕ)). join (some x) (join (some y) o)) (stops l (j + 1) r))
+            two-read r = ap (spoken_in said bad c) (two-more ∙ ap (λ (o : Option (List ℕ)). join (Some x.value) (join (Some y.value) o)) (stops l (y.end + 1) r))
 
-            module _ (z k : ℕ) (r : field_at l (j + 1) ≡ Fld.Is z k) where
-              pub three-numbers : length l ≤ k → spoken_in said bad c (numbers l at) ≡ said c (x ∷ y ∷ z ∷ [])
+            module _ (z : Field) (r : field_at l (y.end + 1) ≡ Some z) where
+              pub three-numbers : length l ≤ z.end → spoken_in said bad c (numbers l at) ≡ said c (x.value ∷ y.value ∷ z.value ∷ [])
               unfolding spoken_in
-              three-numbers f = ap (spoken_in said bad c) (two-more ∙ ap (λ (o : Option (List ℕ)). join (some x) (join (some y) o)) (last l (j + 1) z k r f))
+              three-numbers f = ap (spoken_in said bad c) (two-more ∙ ap (λ (o : Option (List ℕ)). join (Some x.value) (join (Some y.value) o)) (last l (y.end + 1) z r f))
 
-              module _ (f : k < length l) where
-                three-more : numbers l at ≡ join (some x) (join (some y) (join (some z) (numbers l (k + 1))))
-                three-more = two-more ∙ ap (λ (o : Option (List ℕ)). join (some x) (join (some y) o)) (goes_on l (j + 1) z k r f)
+              module _ (f : z.end < length l) where
+                three-more : numbers l at ≡ join (Some x.value) (join (Some y.value) (join (Some z.value) (numbers l (z.end + 1))))
+                three-more = two-more ∙ ap (λ (o : Option (List ℕ)). join (Some x.value) (join (Some y.value) o)) (goes_on l (y.end + 1) z r f)
 
                 -- where no letter has four numbers or more
-                pub past_three : ((w : ℕ) (ws : List ℕ) → said c (x ∷ y ∷ z ∷ w ∷ ws) ≡ bad) → spoken_in said bad c (numbers l at) ≡ bad
+                pub past_three : ((w : ℕ) (ws : List ℕ) → said c (x.value ∷ y.value ∷ z.value ∷ w ∷ ws) ≡ bad) → spoken_in said bad c (numbers l at) ≡ bad
                 unfolding spoken_in numbers_of
-                past_three none_has = ap (spoken_in said bad c) (three-more ∙ ap (λ (o : Option (List ℕ)). join (some x) (join (some y) (join (some z) o))) (ap numbers_of (some-field (drop (k + 1) l))))
-                    ∙ four (number_of (first (fields (drop (k + 1) l)))) (numbers_of (rest (fields (drop (k + 1) l))))
+                past_three none_has = ap (spoken_in said bad c) (three-more ∙ ap (λ (o : Option (List ℕ)). join (Some x.value) (join (Some y.value) (join (Some z.value) o))) (ap numbers_of (some-field (drop (z.end + 1) l))))
+                    ∙ four (number_of (first (fields (drop (z.end + 1) l)))) (numbers_of (rest (fields (drop (z.end + 1) l))))
                   where
-                    four : (o : Option ℕ) (os : Option (List ℕ)) → spoken_in said bad c (join (some x) (join (some y) (join (some z) (join o os)))) ≡ bad
-                    four none os = refl
-                    four (some w) none = refl
-                    four (some w) (some ws) = none_has w ws
+                    four : (o : Option ℕ) (os : Option (List ℕ)) → spoken_in said bad c (join (Some x.value) (join (Some y.value) (join (Some z.value) (join o os)))) ≡ bad
+                    four None os = refl
+                    four (Some w) None = refl
+                    four (Some w) (Some ws) = none_has w ws
 
-                pub three-read : field_at l (k + 1) ≡ Fld.Not → spoken_in said bad c (numbers l at) ≡ bad
+                pub three-read : field_at l (z.end + 1) ≡ None → spoken_in said bad c (numbers l at) ≡ bad
                 unfolding spoken_in
-                three-read s = ap (spoken_in said bad c) (three-more ∙ ap (λ (o : Option (List ℕ)). join (some x) (join (some y) (join (some z) o))) (stops l (k + 1) s))
+                three-read s = ap (spoken_in said bad c) (three-more ∙ ap (λ (o : Option (List ℕ)). join (Some x.value) (join (Some y.value) (join (Some z.value) o))) (stops l (z.end + 1) s))
 
-                module _ (w m : ℕ) (s : field_at l (k + 1) ≡ Fld.Is w m) where
-                  pub four-numbers : length l ≤ m → spoken_in said bad c (numbers l at) ≡ said c (x ∷ y ∷ z ∷ w ∷ [])
+                module _ (w : Field) (s : field_at l (z.end + 1) ≡ Some w) where
+                  pub four-numbers : length l ≤ w.end → spoken_in said bad c (numbers l at) ≡ said c (x.value ∷ y.value ∷ z.value ∷ w.value ∷ [])
                   unfolding spoken_in
-                  four-numbers e = ap (spoken_in said bad c) (three-more ∙ ap (λ (o : Option (List ℕ)). join (some x) (join (some y) (join (some z) o))) (last l (k + 1) w m s e))
+                  four-numbers e = ap (spoken_in said bad c) (three-more ∙ ap (λ (o : Option (List ℕ)). join (Some x.value) (join (Some y.value) (join (Some z.value) o))) (last l (z.end + 1) w s e))
 
-                  pub past-four : m < length l → ((v : ℕ) (vs : List ℕ) → said c (x ∷ y ∷ z ∷ w ∷ v ∷ vs) ≡ bad) → spoken_in said bad c (numbers l at) ≡ bad
+                  pub past-four : w.end < length l → ((v : ℕ) (vs : List ℕ) → said c (x.value ∷ y.value ∷ z.value ∷ w.value ∷ v ∷ vs) ≡ bad) → spoken_in said bad c (numbers l at) ≡ bad
                   unfolding spoken_in numbers_of
                   past-four e none_has =
-                      ap (spoken_in said bad c) (three-more ∙ ap (λ (o : Option (List ℕ)). join (some x) (join (some y) (join (some z) o))) (goes_on l (k + 1) w m s e ∙ ap (join (some w)) (ap numbers_of (some-field (drop (m + 1) l)))))
-                      ∙ five (number_of (first (fields (drop (m + 1) l)))) (numbers_of (rest (fields (drop (m + 1) l))))
+                      ap (spoken_in said bad c) (three-more ∙ ap (λ (o : Option (List ℕ)). join (Some x.value) (join (Some y.value) (join (Some z.value) o))) (goes_on l (z.end + 1) w s e ∙ ap (join (Some w.value)) (ap numbers_of (some-field (drop (w.end + 1) l)))))
+                      ∙ five (number_of (first (fields (drop (w.end + 1) l)))) (numbers_of (rest (fields (drop (w.end + 1) l))))
                     where
-                      five : (o : Option ℕ) (os : Option (List ℕ)) → spoken_in said bad c (join (some x) (join (some y) (join (some z) (join (some w) (join o os))))) ≡ bad
-                      five none os = refl
-                      five (some v) none = refl
-                      five (some v) (some vs) = none_has v vs
+                      five : (o : Option ℕ) (os : Option (List ℕ)) → spoken_in said bad c (join (Some x.value) (join (Some y.value) (join (Some z.value) (join (Some w.value) (join o os))))) ≡ bad
+                      five None os = refl
+                      five (Some v) None = refl
+                      five (Some v) (Some vs) = none_has v vs
 
   -- ---- the whole line
 
@@ -186,17 +185,17 @@ module _ {A : Type 0} (said : ℕ → List ℕ → A) (bad : A) where
   module _ (no-letter : (ns : List ℕ) → (said 0 ns ≡ bad) × (said 32 ns ≡ bad)) where
     nameless : (o : Option (List ℕ)) → spoken_in said bad 0 o ≡ bad
     unfolding spoken_in
-    nameless none = refl
-    nameless (some ns) = (no-letter ns).0
+    nameless None = refl
+    nameless (Some ns) = (no-letter ns).0
 
     space : (c : ℕ) (o : Option (List ℕ)) → eqb c 32 ≡ true → spoken_in said bad c o ≡ bad
     unfolding spoken_in
-    space c none e = refl
-    space c (some ns) e = rw (eqb-true c 32 e) (no-letter ns).1
+    space c None e = refl
+    space c (Some ns) e = rw (eqb-true c 32 e) (no-letter ns).1
 
     pub no_bytes : (l : List ℕ) → length l ≡ 0 → line_in said bad l ≡ bad
     unfolding fields numbers_of
-    no_bytes l h = ap (line_in said bad) (empty l h) ∙ short [] (omega arith) ∙ nameless (some [])
+    no_bytes l h = ap (line_in said bad) (empty l h) ∙ short [] (omega arith) ∙ nameless (Some [])
 
     pub one_byte : (l : List ℕ) → length l ≡ 1 → line_in said bad l ≡ said (get_or l 0 0) []
     unfolding fields numbers_of number_of leads spoken_in
@@ -204,7 +203,7 @@ module _ {A : Type 0} (said : ℕ → List ℕ → A) (bad : A) where
     one_byte (b ∷ []) h = short (b ∷ []) (omega arith) ∙ by-test (eqb b 32) refl
       where
         by-test : (t : Bool) → eqb b 32 ≡ t → fields_in said bad (cond t ([] ∷ [] ∷ []) ((b ∷ []) ∷ [])) ≡ said b []
-        by-test true e = sym (space b (some []) e)
+        by-test true e = sym (space b (Some []) e)
         by-test false e = refl
     one_byte (b ∷ c ∷ l) h = absurd (omega arith)
 

@@ -1,7 +1,6 @@
 -- The fields of a line, and the number that a field says: "fields split by one space, decimal without leading zeros, at most 2^64-1".
 -- A line is the list of its bytes: 32 is a space, 48 to 57 are the digits.
-use Rattle.std.specs.Prelude.{ℕ, ◌+◌, ◌-◌, ◌*◌, ◌^◌, Bool, true, false, not, cond, ◌&&◌, List, [], ◌∷◌, leb, ltb, eqb}
-use Rattle.std.proofs.Math.Option.{Option, none, some}
+use Rattle.std.specs.Prelude.{ℕ, ◌+◌, ◌-◌, ◌*◌, ◌^◌, Bool, true, false, not, cond, ◌&&◌, List, [], ◌∷◌, leb, ltb, eqb, Option, Some, None}
 
 -- b in front of the first field
 abbrev pub before : ℕ → List (List ℕ) → List (List ℕ)
@@ -32,14 +31,14 @@ value n [] = n
 value n (b ∷ l) = value (n * 10 + (b - 48)) l
 
 unfoldable pub number_of : List ℕ → Option ℕ
-number_of l = cond (leads l && (digits l && ltb (value 0 l) (2 ^ 64))) (some (value 0 l)) none
+number_of l = cond (leads l && (digits l && ltb (value 0 l) (2 ^ 64))) (Some (value 0 l)) None
 
 abbrev pub join : Option ℕ → Option (List ℕ) → Option (List ℕ)
-join none r = none
-join (some n) none = none
-join (some n) (some ns) = some (n ∷ ns)
+join None r = None
+join (Some n) None = None
+join (Some n) (Some ns) = Some (n ∷ ns)
 
 -- the numbers of all fields; none where one field is no number
 unfoldable pub numbers_of : List (List ℕ) → Option (List ℕ)
-numbers_of [] = some []
+numbers_of [] = Some []
 numbers_of (f ∷ fs) = join (number_of f) (numbers_of fs)

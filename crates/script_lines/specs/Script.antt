@@ -1,6 +1,5 @@
 -- A line of the script: `f start size`, `a size order`, `r start size order`, `l`, at most 80 bytes; any other line is bad.
-use Rattle.std.specs.Prelude.{ℕ, cond, List, [], ◌∷◌, eqb}
-use Rattle.std.proofs.Math.Option.{Option}
+use Rattle.std.specs.Prelude.{ℕ, cond, List, [], ◌∷◌, eqb, Option}
 use Rattle.calls.specs.declared.Request.TheVariants as asks
 use Rattle.script_lines.specs.Forms.{spoken_in, line_in}
 use Rattle.script_lines.specs.declared.parse.Line.{Line}

@@ -2,30 +2,19 @@
 ghost use Rattle.std.specs.Prelude.{◌≡◌};
 ghost use Rattle.script_lines.specs.Search.{first_in};
 
-#[derive(Clone, Copy)]
-pub enum Found {
-    At(usize),
-    Nothing,
-}
-
 // Places from `from`, before `to`; a place past the buffer holds nothing.
-pub fn find_byte(buf: &[u8], from: usize, to: usize, byte: u8) -> Found
+pub fn find_byte(buf: &[u8], from: usize, to: usize, byte: u8) -> Option<usize>
     ensures { result ≡ first_in byte from to buf.now }
 {
-    let mut i = from;
-    while i < to {
-        if buf.len() <= i {
-            return Found::Nothing;
-        }
+    for i in from..to.min(buf.len()) {
         if buf[i] == byte {
-            return Found::At(i);
+            return Some(i);
         }
-        i += 1;
     }
-    Found::Nothing
+    None
 }
 
-pub fn find_newline(buf: &[u8], from: usize, to: usize) -> Found
+pub fn find_newline(buf: &[u8], from: usize, to: usize) -> Option<usize>
     ensures { result ≡ first_in 10 from to buf.now }
 {
     find_byte(buf, from, to, b'\n')

@@ -1,10 +1,11 @@
 // The call that a line says.
-ghost use Rattle.std.specs.Prelude.{◌≡◌, [], ◌∷◌, drop};
+ghost use Rattle.std.specs.Prelude.{◌≡◌, [], ◌∷◌, drop, unwrap_or};
 ghost use Rattle.script_lines.specs.Fields.{fields, number_of, numbers_of};
 ghost use Rattle.script_lines.specs.Script.{said, spoken, line_of};
-ghost use Rattle.script_lines.specs.Steps.{number, value_from, field_end_lem, field_at};
+ghost use Rattle.script_lines.specs.Steps.{value_from, field_end_lem, field_at};
+ghost use Rattle.script_lines.specs.declared.parse.Line.TheVariants.{Bad};
 
-use crate::find::{Found, find_byte};
+use crate::find::find_byte;
 use calls::Request;
 use pool_state::Address;
 
@@ -15,71 +16,47 @@ pub enum Line {
     Bad,
 }
 
-#[derive(Clone, Copy)]
-enum Number {
-    Is(u64),
-    Not,
-}
-
 // A number, and the place after its field.
 #[derive(Clone, Copy)]
-pub enum Field {
-    Is(u64, usize),
-    Not,
+pub struct Field {
+    pub value: u64,
+    pub end: usize,
 }
 
 // No line of any forms is longer.
 pub const LONGEST: usize = 80;
 
-// The largest number that can be followed by a digit: a tenth of 2^64 - 1.
-const TENTH: u64 = 1844674407370955161;
-
 // One digit more after the digits of n.
-fn with_digit(n: u64, byte: u8) -> Number
-    ensures { result ≡ number (value_from n (byte ∷ [])) }
+fn with_digit(n: u64, byte: u8) -> Option<u64>
+    ensures { result ≡ value_from n (byte ∷ []) }
 {
-    if byte < b'0' {
-        return Number::Not;
+    if !byte.is_ascii_digit() {
+        return None;
     }
-    if b'9' < byte {
-        return Number::Not;
-    }
-    if TENTH < n {
-        return Number::Not;
-    }
-    let digit = (byte - b'0') as u64;
-    if 18446744073709551615 - n * 10 < digit {
-        return Number::Not;
-    }
-    Number::Is(n * 10 + digit)
+    n.checked_mul(10)?.checked_add((byte - b'0') as u64)
 }
 
-fn value_of(field: &[u8]) -> Number
-    ensures { result ≡ number (value_from 0 field.now) }
+fn value_of(field: &[u8]) -> Option<u64>
+    ensures { result ≡ value_from 0 field.now }
 {
     let mut n: u64 = 0;
-    let mut i = 0;
-    while i < field.len() {
-        let Number::Is(more) = with_digit(n, field[i]) else {
-            return Number::Not;
-        };
-        n = more;
-        i += 1;
+    for byte in field {
+        n = with_digit(n, *byte)?;
     }
-    Number::Is(n)
+    Some(n)
 }
 
-fn number_of(field: &[u8]) -> Number
-    ensures { result ≡ number (number_of field.now) }
+fn number_of(field: &[u8]) -> Option<u64>
+    ensures { result ≡ number_of field.now }
 {
     if field.len() == 0 {
-        return Number::Not;
+        return None;
     }
     if field.len() == 1 {
         return value_of(field);
     }
     if field[0] == b'0' {
-        return Number::Not;
+        return None;
     }
     value_of(field)
 }
@@ -87,78 +64,65 @@ fn number_of(field: &[u8]) -> Number
 fn field_end(line: &[u8], at: usize) -> usize
     ensures { result ≡ field_end_lem line.now at }
 {
-    match find_byte(line, at, line.len(), b' ') {
-        Found::At(i) => i,
-        Found::Nothing => line.len(),
-    }
+    find_byte(line, at, line.len(), b' ').unwrap_or(line.len())
 }
 
-pub fn field_at(line: &[u8], at: usize) -> Field
+pub fn field_at(line: &[u8], at: usize) -> Option<Field>
     ensures { result ≡ field_at line.now at }
 {
     let end = field_end(line, at);
     if end < at {
-        return Field::Not;
+        return None;
     }
-    match number_of(&line[at..end]) {
-        Number::Is(n) => Field::Is(n, end),
-        Number::Not => Field::Not,
+    let value = number_of(&line[at..end])?;
+    Some(Field { value, end })
+}
+
+fn with_none(letter: u8) -> Option<Line>
+    ensures { unwrap_or result Bad ≡ said letter [] }
+{
+    match letter {
+        b'l' => Some(Line::List),
+        _ => None,
     }
 }
 
-fn with_none(letter: u8) -> Line
-    ensures { result ≡ said letter [] }
+fn with_two(letter: u8, x: u64, y: u64) -> Option<Line>
+    ensures { unwrap_or result Bad ≡ said letter (x ∷ y ∷ []) }
 {
-    if letter == b'l' {
-        return Line::List;
+    match letter {
+        b'f' => Some(Line::Asks(Request::Free(Address(x), y))),
+        b'a' => Some(Line::Asks(Request::Allocate(x, y))),
+        _ => None,
     }
-    Line::Bad
 }
 
-fn with_two(letter: u8, x: u64, y: u64) -> Line
-    ensures { result ≡ said letter (x ∷ y ∷ []) }
+fn with_three(letter: u8, x: u64, y: u64, z: u64) -> Option<Line>
+    ensures { unwrap_or result Bad ≡ said letter (x ∷ y ∷ z ∷ []) }
 {
-    if letter == b'f' {
-        return Line::Asks(Request::Free(Address(x), y));
+    match letter {
+        b'r' => Some(Line::Asks(Request::Reserve(Address(x), y, z))),
+        _ => None,
     }
-    if letter == b'a' {
-        return Line::Asks(Request::Allocate(x, y));
-    }
-    Line::Bad
-}
-
-fn with_three(letter: u8, x: u64, y: u64, z: u64) -> Line
-    ensures { result ≡ said letter (x ∷ y ∷ z ∷ []) }
-{
-    if letter == b'r' {
-        return Line::Asks(Request::Reserve(Address(x), y, z));
-    }
-    Line::Bad
 }
 
 // The letter's numbers are the fields from `at` on.
-fn with_fields(line: &[u8], at: usize, letter: u8) -> Line
-    ensures { result ≡ spoken letter (numbers_of (fields (drop at line.now))) }
+fn with_fields(line: &[u8], at: usize, letter: u8) -> Option<Line>
+    ensures { unwrap_or result Bad ≡ spoken letter (numbers_of (fields (drop at line.now))) }
 {
-    let Field::Is(x, i) = field_at(line, at) else {
-        return Line::Bad;
-    };
-    if line.len() <= i {
-        return Line::Bad;
+    let x = field_at(line, at)?;
+    if line.len() <= x.end {
+        return None;
     }
-    let Field::Is(y, j) = field_at(line, i + 1) else {
-        return Line::Bad;
-    };
-    if line.len() <= j {
-        return with_two(letter, x, y);
+    let y = field_at(line, x.end + 1)?;
+    if line.len() <= y.end {
+        return with_two(letter, x.value, y.value);
     }
-    let Field::Is(z, k) = field_at(line, j + 1) else {
-        return Line::Bad;
-    };
-    if line.len() <= k {
-        return with_three(letter, x, y, z);
+    let z = field_at(line, y.end + 1)?;
+    if line.len() <= z.end {
+        return with_three(letter, x.value, y.value, z.value);
     }
-    Line::Bad
+    None
 }
 
 // The bytes of one line, without its newline.
@@ -172,10 +136,10 @@ pub fn parse_line(line: &[u8]) -> Line
         return Line::Bad;
     }
     if line.len() == 1 {
-        return with_none(line[0]);
+        return with_none(line[0]).unwrap_or(Line::Bad);
     }
     if line[1] != b' ' {
         return Line::Bad;
     }
-    with_fields(line, 2, line[0])
+    with_fields(line, 2, line[0]).unwrap_or(Line::Bad)
 }

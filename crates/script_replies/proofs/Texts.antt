@@ -6,20 +6,20 @@ use Prim.Native.Nat.{ℕ, ◌^◌, ◌<◌, ◌≤◌}
 use native.Mathlib.Omega.{arith}
 use lib.ListN.{length}
 use borrow.Author.Tests.{eq-eqb, ne_eqb}
-use Rattle.calls.specs.Calls.{number_of, address_of}
-use Rattle.calls.specs.declared.Answer.{Answer}
+use Rattle.std.specs.Prelude.{Ok, Err}
+use Rattle.calls.specs.Calls.{Answer, number_of, address_of}
 use Rattle.calls.specs.declared.Request.{Request}
-use Rattle.calls.specs.declared.Answer.TheVariants.{Accepted, NoEntry, InvalidEntry, NoMemory, InvalidRequest}
+use Rattle.calls.specs.declared.MemoryError.TheVariants.{NoEntry, InvalidEntry, NoMemory, InvalidRequest}
 use Rattle.script_texts.specs.Answers.{ok_text, ok_at, no_text, Puts}
 use Rattle.script_texts.proofs.Buffers.{at-most-48}
 use Rattle.script_replies.specs.Replies.{line, moved_text, placed_text, reply_text, PutsWithin}
 
 number_small : (k : Answer) → number_of k < 2 ^ 64
-number_small (Accepted a) = omega arith
-number_small NoEntry = omega arith
-number_small InvalidEntry = omega arith
-number_small NoMemory = omega arith
-number_small InvalidRequest = omega arith
+number_small (Ok a) = omega arith
+number_small (Err NoEntry) = omega arith
+number_small (Err InvalidEntry) = omega arith
+number_small (Err NoMemory) = omega arith
+number_small (Err InvalidRequest) = omega arith
 
 -- a text within the line's length
 pub puts-line : (t u out m : List ℕ) (at r : ℕ) → t ≡ u → length u ≤ line → Puts u out at m r → PutsWithin line t out at m r

@@ -1,7 +1,6 @@
 -- The text of a call's answer, and of the ranges in two arrays. Assumes nothing.
 use Rattle.std.specs.Prelude.{ℕ, zero, suc, ◌+◌, ◌≤◌, cond, List, [], ◌++◌, eqb, length, get_or}
-use Rattle.calls.specs.Calls.{number_of, address_of}
-use Rattle.calls.specs.declared.Answer.{Answer}
+use Rattle.calls.specs.Calls.{Answer, number_of, address_of}
 use Rattle.calls.specs.declared.Request.{Request}
 use Rattle.calls.specs.declared.Request.TheVariants as asks
 use Rattle.script_texts.specs.Answers.{ok_text, ok_at, no_text, range_text, list_text, Puts}

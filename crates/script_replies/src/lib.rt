@@ -68,10 +68,8 @@ pub fn put_table(
     ensures { PutsWithin (line * (count + 1)) (table_text count total starts.now lasts.now) out.old at out.new result }
 {
     let mut next = put_list(out, at, count, total);
-    let mut i = 0;
-    while i < count as usize {
+    for i in 0..count as usize {
         next = put_row(out, next, starts[i], lasts[i]);
-        i += 1;
     }
     next
 }

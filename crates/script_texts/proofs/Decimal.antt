@@ -3,7 +3,7 @@
 use mathlib.Core.Path.{◌≡◌, refl, ◌∙◌, ap}
 use mathlib.Core.Bool.{Bool, true, false, ◌&&◌}
 use mathlib.Core.List.{List, [], ◌∷◌, ◌++◌, append_assoc}
-use mathlib.Core.Option.{some}
+use Rattle.std.specs.Prelude.{Some}
 use Prim.Native.Nat.{ℕ, zero, suc, ◌+◌, ◌-◌, ◌*◌, ◌/◌, ◌%◌, ◌^◌, ◌≤◌, ◌<◌}
 use native.Mathlib.Numerals.{sub-one}
 use native.Mathlib.Omega.{arith}
@@ -132,6 +132,6 @@ unfolding digits
 all_digits = each (λ (n : ℕ). digits (digits_of n) ≡ true) (λ n h. rw (one-digit n h, digit-of n h))
     (λ n h p. rw (more-digits n h) (digits_last (digits_of (n / 10)) (48 + n % 10) p (digit-of (n % 10) (omega arith))))
 
-pub reads-back : (n : ℕ) → n < 2 ^ 64 → number_of (digits_of n) ≡ some n
+pub reads-back : (n : ℕ) → n < 2 ^ 64 → number_of (digits_of n) ≡ Some n
 unfolding number_of
 reads-back n h = rw (leads-digits n, all_digits n, value-back n, lt-ltb n (2 ^ 64) h)

@@ -3,7 +3,7 @@
 use mathlib.Core.Path.{◌≡◌, refl, ap}
 use mathlib.Core.Bool.{Bool, true, false, ◌&&◌}
 use mathlib.Core.List.{List, [], ◌∷◌, ◌++◌}
-use mathlib.Core.Option.{some}
+use Rattle.std.specs.Prelude.{Some}
 use Prim.Native.Nat.{ℕ, ◌^◌, ◌≤◌, ◌<◌}
 use native.Mathlib.Omega.{arith}
 use borrow.Author.Tests.{leb-true, le-leb, ne_eqb}
@@ -61,7 +61,7 @@ module _ (x y : ℕ) (hx : x < 2 ^ 64) (hy : y < 2 ^ 64) where
   two-short : (c : ℕ) → length (two c x y) ≤ 80
   two-short c = omega (arith, length-append (digits_of x) (32 ∷ digits_of y), at-most-twenty x hx, at-most-twenty y hy)
 
-  two-numbers : numbers_of (fields (digits_of x ++ 32 ∷ digits_of y)) ≡ some (x ∷ y ∷ [])
+  two-numbers : numbers_of (fields (digits_of x ++ 32 ∷ digits_of y)) ≡ Some (x ∷ y ∷ [])
   unfolding numbers_of
   two-numbers = rw (then (digits_of x) (digits_of y) (all_digits x), alone (digits_of y) (all_digits y), reads-back x hx, reads-back y hy)
 
@@ -77,7 +77,7 @@ module _ (x y : ℕ) (hx : x < 2 ^ 64) (hy : y < 2 ^ 64) where
     three-short : length (three 114 x y z) ≤ 80
     three-short = omega (arith, length-append (digits_of x) (32 ∷ (digits_of y ++ (32 ∷ digits_of z))), length-append (digits_of y) (32 ∷ digits_of z), at-most-twenty x hx, at-most-twenty y hy, at-most-twenty z hz)
 
-    three-numbers : numbers_of (fields (digits_of x ++ (32 ∷ (digits_of y ++ (32 ∷ digits_of z))))) ≡ some (x ∷ y ∷ z ∷ [])
+    three-numbers : numbers_of (fields (digits_of x ++ (32 ∷ (digits_of y ++ (32 ∷ digits_of z))))) ≡ Some (x ∷ y ∷ z ∷ [])
     unfolding numbers_of
     three-numbers =
         rw (then (digits_of x) (digits_of y ++ (32 ∷ digits_of z)) (all_digits x), then (digits_of y) (digits_of z) (all_digits y), alone (digits_of z) (all_digits z), reads-back x hx, reads-back y hy, reads-back z hz)

@@ -1,7 +1,7 @@
 // The program that shows a journal: standard input is read in parts, and each whole block is a line.
 #![tactic(auto)]
 
-ghost use Rattle.std.specs.Prelude.{◌≡◌, ◌+◌, ◌*◌, ◌≤◌, ◌<◌, ◌^◌, length};
+ghost use Rattle.std.specs.Prelude.{◌≡◌, ◌+◌, ◌*◌, ◌≤◌, ◌<◌, ◌^◌, IfSome, length};
 ghost use Rattle.pool_state.specs.Lent.{was, is};
 ghost use Rattle.show.specs.Shown.{Came};
 
@@ -10,94 +10,77 @@ use journal_blocks::{Block, VERSION, read_block};
 use journal_prints::{print_entry, report, shift};
 use streams::{Streams, read_some};
 
-// The place of the next block and its index; whether it may be shown at once; whether a fault or a failure has ended it all.
+// The place of the next block, and its index.
 #[derive(Clone, Copy)]
 pub struct Showing {
     pub at: usize,
     pub index: u64,
-    pub going: bool,
-    pub over: bool,
 }
 
-// The index of the next block, how many bytes at the front of the buffer are still to be shown, and whether all is over.
+// What comes after a block was judged: the next one, more of the input, since no whole block is left, or nothing: a fault was reported, or
+// a line could not be written.
+#[derive(Clone, Copy)]
+pub enum Next {
+    Block(Showing),
+    More,
+    Over,
+}
+
+// The index of the next block, and how many bytes at the front of the buffer are still to be shown.
 #[derive(Clone, Copy)]
 pub struct Sitting {
     pub index: u64,
     pub held: usize,
-    pub over: bool,
 }
 
-// The block at the place is judged; the showing stops there, unless it is a call.
-fn show_block(streams: Streams, part: &[u8], at: usize, index: u64) -> Showing
-    requires { (at ≤ length part.now) × (index + 1 < 2 ^ 64) }
-    ensures { Came (length part.now) at index result }
+// The block at the place is judged.
+fn show_block(streams: Streams, part: &[u8], s: Showing) -> Next
+    requires { (s.at ≤ length part.now) × (s.index + 1 < 2 ^ 64) }
+    ensures { Came (length part.now) s result }
 {
-    match read_block(part, at) {
+    match read_block(part, s.at) {
         Block::Call(entry, next) => {
-            let written = print_entry(streams, entry);
-            Showing {
+            if !print_entry(streams, entry) {
+                return Next::Over;
+            }
+            Next::Block(Showing {
                 at: next,
-                index: index + 1,
-                going: written,
-                over: !written,
-            }
+                index: s.index + 1,
+            })
         }
-        Block::End => Showing {
-            at: at,
-            index: index,
-            going: false,
-            over: false,
-        },
-        Block::Truncated => Showing {
-            at: at,
-            index: index,
-            going: false,
-            over: false,
-        },
+        Block::End => Next::More,
+        Block::Truncated => Next::More,
         Block::UnknownCall => {
-            report(streams, Verdict::UnknownCall(index));
-            Showing {
-                at: at,
-                index: index,
-                going: false,
-                over: true,
-            }
+            report(streams, Verdict::UnknownCall(s.index));
+            Next::Over
         }
         Block::WrongLength => {
-            report(streams, Verdict::WrongLength(index));
-            Showing {
-                at: at,
-                index: index,
-                going: false,
-                over: true,
-            }
+            report(streams, Verdict::WrongLength(s.index));
+            Next::Over
         }
     }
 }
 
-// Every whole block of a part.
-fn show_part(streams: Streams, part: &[u8], index: u64) -> Showing
+// Every whole block of a part, and where the rest begins. None: all is over.
+fn show_part(streams: Streams, part: &[u8], index: u64) -> Option<Showing>
     requires { index + length part.now + 1 < 2 ^ 64 }
-    ensures { (result.at ≤ length part.now) × (result.index ≤ index + length part.now) }
+    ensures { IfSome result (λ (r : Showing). (r.at ≤ length part.now) × (r.index ≤ index + length part.now)) }
 {
-    let mut s = Showing {
-        at: 0,
-        index: index,
-        going: true,
-        over: false,
-    };
-    while s.going {
-        s = show_block(streams, part, s.at, s.index);
+    let mut s = Showing { at: 0, index };
+    loop {
+        match show_block(streams, part, s) {
+            Next::Block(next) => s = next,
+            Next::More => return Some(s),
+            Next::Over => return None,
+        }
     }
-    s
 }
 
-// What was not shown goes to the front, and more is read behind it. At the end of the input a block may be cut off.
-fn read_on(mut streams: Streams, s: Showing, held: usize, buf: &mut [u8]) -> Sitting
+// What was not shown goes to the front, and more is read behind it. At the end of the input a block may be cut off. None: all is over.
+fn read_on(mut streams: Streams, s: Showing, held: usize, buf: &mut [u8]) -> Option<Sitting>
     requires { (s.at ≤ held) × (held ≤ length buf.old) }
-    ensures { (result.held ≤ length (is buf)) × (result.index ≡ s.index) }
+    ensures { IfSome result (λ (r : Sitting). (r.held ≤ length (is buf)) × (r.index ≡ s.index)) }
 {
-    let index = s.index;
     let rest = shift(buf, s.at, held);
     let end = buf.len();
     let read = read_some(
@@ -106,43 +89,27 @@ fn read_on(mut streams: Streams, s: Showing, held: usize, buf: &mut [u8]) -> Sit
         &mut buf[rest..end],
         b"failed: the journal cannot be read",
     );
-    if read.failed {
-        return Sitting {
-            index: index,
-            held: 0,
-            over: true,
-        };
-    }
-    if read.bytes > 0 {
-        return Sitting {
-            index: index,
-            held: rest + read.bytes,
-            over: false,
-        };
+    let Ok(count) = read else {
+        return None;
+    };
+    if count > 0 {
+        return Some(Sitting {
+            index: s.index,
+            held: rest + count,
+        });
     }
     if rest > 0 {
-        report(streams, Verdict::Truncated(index));
+        report(streams, Verdict::Truncated(s.index));
     }
-    Sitting {
-        index: index,
-        held: 0,
-        over: true,
-    }
+    None
 }
 
-// The blocks in the buffer are shown.
-fn turn(streams: Streams, index: u64, held: usize, buf: &mut [u8]) -> Sitting
+// The blocks in the buffer are shown. None: all is over.
+fn turn(streams: Streams, index: u64, held: usize, buf: &mut [u8]) -> Option<Sitting>
     requires { (held ≤ length buf.old) × (index + length buf.old + 1 < 2 ^ 64) }
-    ensures { (result.held ≤ length (is buf)) × (result.index ≤ index + length (was buf)) }
+    ensures { IfSome result (λ (r : Sitting). (r.held ≤ length (is buf)) × (r.index ≤ index + length (was buf))) }
 {
-    let s = show_part(streams, &buf[..held], index);
-    if s.over {
-        return Sitting {
-            index: s.index,
-            held: 0,
-            over: true,
-        };
-    }
+    let s = show_part(streams, &buf[..held], index)?;
     read_on(streams, s, held, buf)
 }
 
@@ -153,12 +120,12 @@ fn show_all(streams: Streams, buf: &mut [u8], first: usize)
     let mut s = Sitting {
         index: 0,
         held: first,
-        over: false,
     };
-    let mut turns: u64 = 140737488355328;
-    while !s.over && turns > 0 {
-        s = turn(streams, s.index, s.held, buf);
-        turns -= 1;
+    for _turns in 0..140737488355328u64 {
+        match turn(streams, s.index, s.held, buf) {
+            Some(more) => s = more,
+            None => return,
+        }
     }
 }
 
@@ -191,8 +158,7 @@ fn main(rt: HostRuntime) {
         &mut buf,
         b"failed: the journal cannot be read",
     );
-    if read.failed {
-        return;
+    if let Ok(count) = read {
+        open(streams, &mut buf, count);
     }
-    open(streams, &mut buf, read.bytes);
 }

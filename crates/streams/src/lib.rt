@@ -2,10 +2,10 @@
 // and what failed is said on standard error, once, in a line that whoever runs the program turns into an exit status.
 #![tactic(auto)]
 
-ghost use Rattle.std.specs.Prelude.{◌≡◌, ◌<◌, ◌≤◌, ◌↔◌, IsTrue, false, length, take};
+ghost use Rattle.std.specs.Prelude.{◌≡◌, ◌<◌, ◌≤◌, ◌↔◌, IsTrue, Ok, IfErr, length, take};
 ghost use Rattle.std.specs.IoError.{error_kind};
 ghost use Rattle.std.specs.Io.KnownBytes.{Appends, Consumes, IsAtEnd};
-ghost use Rattle.streams.specs.Streams.{Moves, Puts, Reads, Writes};
+ghost use Rattle.streams.specs.Streams.{Moves, Puts, bytes_of, bytes_read, bytes_written};
 
 use std::io;
 use std::io::{Cursor, Error, ErrorKind, Read, Stderr, Stdin, Stdout, Write};
@@ -18,19 +18,22 @@ pub struct Streams {
     pub errors: Stderr,
 }
 
-// How many bytes a call moved; whether a signal interrupted it, so that it is to be made again; whether it failed.
+// A read has failed, and that is said.
 #[derive(Clone, Copy)]
-pub struct Moved {
-    pub bytes: usize,
-    pub again: bool,
-    pub failed: bool,
+pub struct Unread;
+
+// A write has failed, and that is said; so many bytes of the buffer were taken before.
+#[derive(Clone, Copy)]
+pub struct Unwritten {
+    pub taken: usize,
 }
 
-// How many bytes of a buffer were taken, and whether a write failed before all were.
+// What came of a call: it moved so many bytes, or a signal interrupted it, so that it is to be made again, or it failed.
 #[derive(Clone, Copy)]
-pub struct Written {
-    pub bytes: usize,
-    pub failed: bool,
+enum Moved {
+    Bytes(usize),
+    Again,
+    Failed,
 }
 
 // How many bytes the system's words have. A number in brackets stands behind them, and zeros behind all.
@@ -74,69 +77,42 @@ fn is_interrupted<E: Write>(error: &Error, errors: &mut E, what: &[u8]) -> bool
 fn told_by<E: Write>(got: io::Result<usize>, buf: &[u8], errors: &mut E, what: &[u8]) -> Moved
     ensures { Moves got (length buf.now) result }
 {
-    let error = match got {
-        Ok(bytes) => {
-            return Moved {
-                bytes: bytes.min(buf.len()),
-                again: false,
-                failed: false,
-            };
-        }
-        Err(error) => error,
-    };
-    let again = is_interrupted(&error, errors, what);
-    Moved {
-        bytes: 0,
-        again: again,
-        failed: !again,
+    match got {
+        Ok(bytes) => Moved::Bytes(bytes.min(buf.len())),
+        Err(error) if is_interrupted(&error, errors, what) => Moved::Again,
+        Err(_) => Moved::Failed,
     }
 }
 
-// Reads once. No bytes and no failure: the input has ended.
+// Reads once. No bytes: the input has ended.
 pub fn read_some<R: Read, E: Write>(
     input: &mut R,
     errors: &mut E,
     buf: &mut [u8],
     what: &[u8],
-) -> Moved
-    ensures reads { Reads result (length buf.new) }
-    ensures given { Consumes (R.remaining input.old) (R.remaining input.new) (take result.bytes buf.new) }
-    ensures ended { (result.failed ≡ false) → (result.bytes ≡ 0) → 0 < length buf.new → IsAtEnd (R.remaining input.new) }
+) -> Result<usize, Unread>
+    ensures within { bytes_read result ≤ length buf.new }
+    ensures given { Consumes (R.remaining input.old) (R.remaining input.new) (take (bytes_read result) buf.new) }
+    ensures ended { (result ≡ Ok 0) → 0 < length buf.new → IsAtEnd (R.remaining input.new) }
 {
-    let mut tries = u64::MAX;
-    while tries > 0 {
-        let got = input.read(buf);
-        let read = told_by(got, buf, errors, what);
-        let again = read.again;
-        if again {
-            tries -= 1;
-        } else {
-            return read;
+    for _ in 0..u64::MAX {
+        match told_by(input.read(buf), buf, errors, what) {
+            Moved::Bytes(bytes) => return Ok(bytes),
+            Moved::Again => {}
+            Moved::Failed => return Err(Unread),
         }
     }
-    Moved {
-        bytes: 0,
-        again: false,
-        failed: true,
-    }
+    Err(Unread)
 }
 
 // One write of the buffer's first bytes. One that takes nothing has failed, too.
 fn write_some<W: Write, E: Write>(output: &mut W, errors: &mut E, buf: &[u8], what: &[u8]) -> Moved
     ensures puts { Puts result (length buf.now) }
-    ensures taken { Appends (W.contents output.old) (W.contents output.new) (take result.bytes buf.now) }
+    ensures taken { Appends (W.contents output.old) (W.contents output.new) (take (bytes_of result) buf.now) }
 {
-    let put = told_by(output.write(buf), buf, errors, what);
-    if put.bytes > 0 {
-        return put;
-    }
-    if put.again {
-        return put;
-    }
-    Moved {
-        bytes: 0,
-        again: false,
-        failed: true,
+    match told_by(output.write(buf), buf, errors, what) {
+        Moved::Bytes(0) => Moved::Failed,
+        put => put,
     }
 }
 
@@ -146,31 +122,22 @@ pub fn write_all<W: Write, E: Write>(
     errors: &mut E,
     buf: &[u8],
     what: &[u8],
-) -> Written
-    ensures writes { Writes result (length buf.now) }
-    ensures taken { Appends (W.contents output.old) (W.contents output.new) (take result.bytes buf.now) }
+) -> Result<(), Unwritten>
+    ensures part { IfErr result (λ (e : Unwritten). e.taken < length buf.now) }
+    ensures taken { Appends (W.contents output.old) (W.contents output.new) (take (bytes_written result (length buf.now)) buf.now) }
 {
     let mut done = 0;
     let mut tries = u64::MAX;
     while done < buf.len() {
         if tries == 0 {
-            return Written {
-                bytes: done,
-                failed: true,
-            };
+            return Err(Unwritten { taken: done });
         }
-        let put = write_some(output, errors, &buf[done..], what);
-        if put.failed {
-            return Written {
-                bytes: done,
-                failed: true,
-            };
+        match write_some(output, errors, &buf[done..], what) {
+            Moved::Bytes(bytes) => done += bytes,
+            Moved::Again => {}
+            Moved::Failed => return Err(Unwritten { taken: done }),
         }
-        done += put.bytes;
         tries -= 1;
     }
-    Written {
-        bytes: done,
-        failed: false,
-    }
+    Ok(())
 }

@@ -26,7 +26,7 @@ returns-then-line-eq0 c =
 
 pub returns-then-line-eq1 : goal.returns-then-line-eq1
 returns-then-line-eq1 c =
-    c.with_none.ensures ∙ sym (one_byte said Bad no-letter c.args.line.now c.if-line-eq1.true)
+    c.unwrap_or.ensures ∙ c.with_none.ensures ∙ sym (one_byte said Bad no-letter c.args.line.now c.if-line-eq1.true)
 
 pub returns-then-line-ne32 : goal.returns-then-line-ne32
 returns-then-line-ne32 c =
@@ -34,4 +34,4 @@ returns-then-line-ne32 c =
 
 pub returns : goal.returns
 returns c =
-    c.with_fields.ensures ∙ sym (one-letter said Bad no-letter c.args.line.now (omega arith) (omega arith) c.if-line-ne32.false)
+    c.unwrap_or-2.ensures ∙ c.with_fields.ensures ∙ sym (one-letter said Bad no-letter c.args.line.now (omega arith) (omega arith) c.if-line-ne32.false)

@@ -5,72 +5,63 @@ use Rattle.holder_lines.specs.Lines.{said}
 use Rattle.holder_lines.specs.declared.HolderLine.TheVariants.{Bad}
 use Rattle.holder_lines.proofs.with_fields.Goals as goal
 
-pub returns-in_default : goal.returns-in_default
-returns-in_default c =
-    let s = c in
-    sym (none_read said Bad s.args.letter s.args.line.now s.args.at (sym c.field_at.ensures ∙ c.in_default.is))
+pub returns-in_err-x : goal.returns-in_err-x
+returns-in_err-x c =
+    rw c.from_residual.ensures (sym (none_read said Bad c.args.letter c.args.line.now c.args.at
+    (sym c.field_at.ensures ∙ c.in_err-x.was)))
 
-pub returns-then-line-i : goal.returns-then-line-i
-returns-then-line-i c =
-    let a = c in
-    let s = a in
-    c.with_one.ensures ∙ sym
-    (one_number said Bad s.args.letter s.args.line.now s.args.at _ _ (sym a.field_at.ensures ∙ a.in-Is.is) c.if-line-i.true)
+pub returns-then-line-x : goal.returns-then-line-x
+returns-then-line-x c =
+    c.with_one.ensures ∙ sym (one_number said Bad c.args.letter c.args.line.now c.args.at
+    _ (sym c.field_at.ensures ∙ c.in_ok-x.was) c.if-line-x.true)
 
-pub returns-in_default-field_at : goal.returns-in_default-field_at
-returns-in_default-field_at c =
-    let a = c in
-    let s = a in
-    sym (one-read said Bad s.args.letter s.args.line.now s.args.at _ _ (sym a.field_at.ensures ∙ a.in-Is.is) c.if-line-i.false (sym c.field_at-2.ensures ∙ c.in_default-field_at.is))
+pub returns-in_err-y : goal.returns-in_err-y
+returns-in_err-y c =
+    rw c.from_residual-in_err-y.ensures (sym (one-read said Bad c.args.letter c.args.line.now c.args.at
+    _ (sym c.field_at.ensures ∙ c.in_ok-x.was) c.if-line-x.false
+    (sym c.field_at-2.ensures ∙ c.in_err-y.was)))
 
-pub returns-then-line-j : goal.returns-then-line-j
-returns-then-line-j c =
-    let b = c in
-    let a = b in
-    let s = a in
-    c.with_two.ensures ∙ sym
-    (two-numbers said Bad s.args.letter s.args.line.now s.args.at _ _ (sym a.field_at.ensures ∙ a.in-Is.is) b.if-line-i.false _ _ (sym b.field_at-2.ensures ∙ b.in-Is-field_at.is) c.if-line-j.true)
+pub returns-then-line-y : goal.returns-then-line-y
+returns-then-line-y c =
+    c.with_two.ensures ∙ sym (two-numbers said Bad c.args.letter c.args.line.now c.args.at
+    _ (sym c.field_at.ensures ∙ c.in_ok-x.was) c.if-line-x.false
+    _ (sym c.field_at-2.ensures ∙ c.in_ok-y.was) c.if-line-y.true)
 
-pub returns-in_default-field_at-2 : goal.returns-in_default-field_at-2
-returns-in_default-field_at-2 c =
-    let b = c in
-    let a = b in
-    let s = a in
-    sym (two-read said Bad s.args.letter s.args.line.now s.args.at _ _ (sym a.field_at.ensures ∙ a.in-Is.is) b.if-line-i.false _ _ (sym b.field_at-2.ensures ∙ b.in-Is-field_at.is) c.if-line-j.false (sym c.field_at-3.ensures ∙ c.in_default-field_at-2.is))
+pub returns-in_err-z : goal.returns-in_err-z
+returns-in_err-z c =
+    rw c.from_residual-in_err-z.ensures (sym (two-read said Bad c.args.letter c.args.line.now c.args.at
+    _ (sym c.field_at.ensures ∙ c.in_ok-x.was) c.if-line-x.false
+    _ (sym c.field_at-2.ensures ∙ c.in_ok-y.was) c.if-line-y.false
+    (sym c.field_at-3.ensures ∙ c.in_err-z.was)))
 
-pub returns-then-line-k : goal.returns-then-line-k
-returns-then-line-k c =
-    let d = c in
-    let b = d in
-    let a = b in
-    let s = a in
-    c.with_three.ensures ∙ sym
-    (three-numbers said Bad s.args.letter s.args.line.now s.args.at _ _ (sym a.field_at.ensures ∙ a.in-Is.is) b.if-line-i.false _ _ (sym b.field_at-2.ensures ∙ b.in-Is-field_at.is) d.if-line-j.false _ _ (sym d.field_at-3.ensures ∙ d.in-Is-field_at-2.is) c.if-line-k.true)
+pub returns-then-line-z : goal.returns-then-line-z
+returns-then-line-z c =
+    c.with_three.ensures ∙ sym (three-numbers said Bad c.args.letter c.args.line.now c.args.at
+    _ (sym c.field_at.ensures ∙ c.in_ok-x.was) c.if-line-x.false
+    _ (sym c.field_at-2.ensures ∙ c.in_ok-y.was) c.if-line-y.false
+    _ (sym c.field_at-3.ensures ∙ c.in_ok-z.was) c.if-line-z.true)
 
-pub returns-in_default-field_at-3 : goal.returns-in_default-field_at-3
-returns-in_default-field_at-3 c =
-    let d = c in
-    let b = d in
-    let a = b in
-    let s = a in
-    sym (three-read said Bad s.args.letter s.args.line.now s.args.at _ _ (sym a.field_at.ensures ∙ a.in-Is.is) b.if-line-i.false _ _ (sym b.field_at-2.ensures ∙ b.in-Is-field_at.is) d.if-line-j.false _ _ (sym d.field_at-3.ensures ∙ d.in-Is-field_at-2.is) c.if-line-k.false (sym c.field_at-4.ensures ∙ c.in_default-field_at-3.is))
+pub returns-in_err-w : goal.returns-in_err-w
+returns-in_err-w c =
+    rw c.from_residual-in_err-w.ensures (sym (three-read said Bad c.args.letter c.args.line.now c.args.at
+    _ (sym c.field_at.ensures ∙ c.in_ok-x.was) c.if-line-x.false
+    _ (sym c.field_at-2.ensures ∙ c.in_ok-y.was) c.if-line-y.false
+    _ (sym c.field_at-3.ensures ∙ c.in_ok-z.was) c.if-line-z.false
+    (sym c.field_at-4.ensures ∙ c.in_err-w.was)))
 
-pub returns-then-line-m : goal.returns-then-line-m
-returns-then-line-m c =
-    let e = c in
-    let d = e in
-    let b = d in
-    let a = b in
-    let s = a in
-    c.with_four.ensures ∙ sym
-    (four-numbers said Bad s.args.letter s.args.line.now s.args.at _ _ (sym a.field_at.ensures ∙ a.in-Is.is) b.if-line-i.false _ _ (sym b.field_at-2.ensures ∙ b.in-Is-field_at.is) d.if-line-j.false _ _ (sym d.field_at-3.ensures ∙ d.in-Is-field_at-2.is) e.if-line-k.false _ _ (sym e.field_at-4.ensures ∙ e.in-Is-field_at-3.is) c.if-line-m.true)
+pub returns-then-line-w : goal.returns-then-line-w
+returns-then-line-w c =
+    c.with_four.ensures ∙ sym (four-numbers said Bad c.args.letter c.args.line.now c.args.at
+    _ (sym c.field_at.ensures ∙ c.in_ok-x.was) c.if-line-x.false
+    _ (sym c.field_at-2.ensures ∙ c.in_ok-y.was) c.if-line-y.false
+    _ (sym c.field_at-3.ensures ∙ c.in_ok-z.was) c.if-line-z.false
+    _ (sym c.field_at-4.ensures ∙ c.in_ok-w.was) c.if-line-w.true)
 
 pub returns : goal.returns
 unfolding said
 returns c =
-    let e = c in
-    let d = e in
-    let b = d in
-    let a = b in
-    let s = a in
-    sym (past-four said Bad s.args.letter s.args.line.now s.args.at _ _ (sym a.field_at.ensures ∙ a.in-Is.is) b.if-line-i.false _ _ (sym b.field_at-2.ensures ∙ b.in-Is-field_at.is) d.if-line-j.false _ _ (sym d.field_at-3.ensures ∙ d.in-Is-field_at-2.is) e.if-line-k.false _ _ (sym e.field_at-4.ensures ∙ e.in-Is-field_at-3.is) c.if-line-m.false (λ v vs. refl))
+    sym (past-four said Bad c.args.letter c.args.line.now c.args.at
+    _ (sym c.field_at.ensures ∙ c.in_ok-x.was) c.if-line-x.false
+    _ (sym c.field_at-2.ensures ∙ c.in_ok-y.was) c.if-line-y.false
+    _ (sym c.field_at-3.ensures ∙ c.in_ok-z.was) c.if-line-z.false
+    _ (sym c.field_at-4.ensures ∙ c.in_ok-w.was) c.if-line-w.false (λ v vs. refl))

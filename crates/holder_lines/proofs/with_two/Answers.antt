@@ -1,13 +1,15 @@
+use mathlib.Core.Path.{◌≡◌}
 use borrow.Author.Tests.{eq-eqb, ne_eqb}
+use native.Mathlib.Omega.{arith}
 use Rattle.holder_lines.specs.Lines.{said}
 use Rattle.holder_lines.proofs.with_two.Goals as goal
 
-pub returns-then-letter-eq111 : goal.returns-then-letter-eq111
+pub returns-in-111 : goal.returns-in-111
 unfolding said
-returns-then-letter-eq111 c =
-    rw (eq-eqb _ 111 c.if-letter-eq111.true)
+returns-in-111 c =
+    rw (eq-eqb _ 111 c.in-111.is)
 
-pub returns : goal.returns
+pub returns-in_default : goal.returns-in_default
 unfolding said
-returns c =
-    rw (ne_eqb _ 111 c.if-letter-eq111.false)
+returns-in_default c =
+    rw (ne_eqb _ 111 (λ (e : c.args.letter ≡ 111). omega arith))

@@ -1,11 +1,6 @@
-use Prim.Native.Nat.{◌-◌, ◌≤◌}
 use Rattle.holder_replies.proofs.Tables.{Rowed}
 use Rattle.holder_replies.proofs.put_held.Given as goal
 
 abbrev pub invariant-loop-i : goal.invariant-loop-i
 invariant-loop-i l =
-    (l.i ≤ l.count) × Rowed l.i l.holders l.starts l.lasts l.initial.out l.initial.next l.out l.next
-
-abbrev pub decreases-loop-i : goal.decreases-loop-i
-decreases-loop-i l =
-    l.count - l.i
+    Rowed l.i l.holders l.starts l.lasts l.initial.out l.initial.next l.out l.next

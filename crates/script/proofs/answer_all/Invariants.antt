@@ -4,9 +4,6 @@ use Rattle.script_forms.specs.Forms.{desk_in}
 use Rattle.script.proofs.Looping.{Going}
 use Rattle.script.proofs.answer_all.Given as goal
 
-abbrev pub invariant-loop-streams : goal.invariant-loop-streams
-invariant-loop-streams l =
-    Going pool l.initial.carry l.initial.chunk l.initial.out (desk_in l.forms l.words (arrays l.total l.first l.heads l.start l.end l.enabled l.previous l.next l.lprev l.lnext)) l.session l.carry l.chunk l.out l.turns
-
-abbrev pub decreases-loop-streams : goal.decreases-loop-streams
-decreases-loop-streams l = l.turns
+abbrev pub invariant-loop-turns : goal.invariant-loop-turns
+invariant-loop-turns l =
+    Going pool l.initial.carry l.initial.chunk l.initial.out (desk_in l.forms l.words (arrays l.total l.first l.heads l.start l.end l.enabled l.previous l.next l.lprev l.lnext)) l.session l.carry l.chunk l.out l._turns

@@ -10,18 +10,18 @@ put_table-requires c =
     let listing = counted in
     let start = listing in
     let o = start.requires.ordered in
-    let k = count-is pool o.0 _ _ _ _ o.1 _ _ _ _ _ (listing.list_in.ensures o.0 o.1) refl refl _ counted.in-Count.is in
+    let k = count-is pool o.0 _ _ _ _ o.1 _ _ _ _ _ (listing.list_in.ensures o.0 o.1) refl refl _ counted.in-Some.is in
     let h = chain-few pool o.0 _ _ _ _ o.1 in
     let r = start.requires.pool_in_bounds in
     (omega arith, omega arith)
 
-pub returns-in-Count : goal.returns-in-Count
-returns-in-Count c d o =
+pub returns-in-Some : goal.returns-in-Some
+returns-in-Some c d o =
     let counted = c in
     let listing = counted in
-    table-puts pool d _ _ _ _ o _ _ _ _ _ (listing.list_in.ensures d o) refl refl _ counted.in-Count.is _ _ _ _ _ c.put_table.ensures
+    table-puts pool d _ _ _ _ o _ _ _ _ _ (listing.list_in.ensures d o) refl refl _ counted.in-Some.is _ _ _ _ _ c.put_table.ensures
 
-pub returns-in-Short : goal.returns-in-Short
-returns-in-Short c d o =
+pub returns-in-None : goal.returns-in-None
+returns-in-None c d o =
     let listing = c in
-    absurd (not_short pool d _ _ _ _ o _ _ _ _ _ (listing.list_in.ensures d o) refl refl c.in-Short.is)
+    absurd (not_short pool d _ _ _ _ o _ _ _ _ _ (listing.list_in.ensures d o) refl refl c.in-None.is)

@@ -7,22 +7,16 @@ use Rattle.script_lines.proofs.parse.field_at.Goals as goal
 
 pub returns-then-end-at : goal.returns-then-end-at
 returns-then-end-at c =
-    let s = c in
-    sym (past-line s.args.line.now s.args.at _ c.field_end-end.ensures c.if-end-at.true)
+    sym (past-line c.args.line.now c.args.at _ c.field_end-end.ensures c.if-end-at.true)
 
 pub slice_bounds-number_of-end : goal.slice_bounds-number_of-end
 slice_bounds-number_of-end c =
-    let s = c in
-    omega (arith, (field-ends s.args.line.now s.args.at).within, c.field_end-end.ensures)
+    omega (arith, (field-ends c.args.line.now c.args.at).within, c.field_end-end.ensures)
 
-pub returns-in-Is : goal.returns-in-Is
-returns-in-Is c =
-    let s = c in
-    let e = c in
-    sym (number-there s.args.line.now s.args.at _ e.field_end-end.ensures e.if-end-at.false _ (sym c.number_of.ensures ∙ c.in-Is.is))
+pub returns-in_err-value : goal.returns-in_err-value
+returns-in_err-value c =
+    c.from_residual.ensures ∙ sym (no-number-there c.args.line.now c.args.at _ c.field_end-end.ensures c.if-end-at.false (sym c.number_of.ensures ∙ c.in_err-value.was))
 
-pub returns-in-Not : goal.returns-in-Not
-returns-in-Not c =
-    let s = c in
-    let e = c in
-    sym (no-number-there s.args.line.now s.args.at _ e.field_end-end.ensures e.if-end-at.false (sym c.number_of.ensures ∙ c.in-Not.is))
+pub returns : goal.returns
+returns c =
+    sym (number-there c.args.line.now c.args.at _ c.field_end-end.ensures c.if-end-at.false _ (sym c.number_of.ensures ∙ c.in_ok-value.was))

@@ -1,15 +1,17 @@
 -- `parse::with_three` meets its contract.
 -- Assumes nothing.
+use mathlib.Core.Path.{◌≡◌}
 use borrow.Author.Tests.{eq-eqb, ne_eqb}
+use native.Mathlib.Omega.{arith}
 use Rattle.script_lines.specs.Script.{said}
 use Rattle.script_lines.proofs.parse.with_three.Goals as goal
 
-pub returns-then-letter-eq114 : goal.returns-then-letter-eq114
+pub returns-in-114 : goal.returns-in-114
 unfolding said
-returns-then-letter-eq114 c =
-    rw (eq-eqb _ 114 c.if-letter-eq114.true)
+returns-in-114 c =
+    rw (eq-eqb _ 114 c.in-114.is)
 
-pub returns : goal.returns
+pub returns-in_default : goal.returns-in_default
 unfolding said
-returns c =
-    rw (ne_eqb _ 114 c.if-letter-eq114.false)
+returns-in_default c =
+    rw (ne_eqb _ 114 (λ (e : c.args.letter ≡ 114). omega arith))

@@ -1,20 +1,22 @@
 -- `parse::with_two` meets its contract.
 -- Assumes nothing.
+use mathlib.Core.Path.{◌≡◌}
 use borrow.Author.Tests.{eq-eqb, ne_eqb}
+use native.Mathlib.Omega.{arith}
 use Rattle.script_lines.specs.Script.{said}
 use Rattle.script_lines.proofs.parse.with_two.Goals as goal
 
-pub returns-then-letter-eq102 : goal.returns-then-letter-eq102
+pub returns-in-102 : goal.returns-in-102
 unfolding said
-returns-then-letter-eq102 c =
-    rw (eq-eqb _ 102 c.if-letter-eq102.true)
+returns-in-102 c =
+    rw (eq-eqb _ 102 c.in-102.is)
 
-pub returns-then-letter-eq97 : goal.returns-then-letter-eq97
+pub returns-in-97 : goal.returns-in-97
 unfolding said
-returns-then-letter-eq97 c =
-    rw (ne_eqb _ 102 c.if-letter-eq102.false, eq-eqb _ 97 c.if-letter-eq97.true)
+returns-in-97 c =
+    rw (ne_eqb _ 102 (λ (e : c.args.letter ≡ 102). omega arith), eq-eqb _ 97 c.in-97.is)
 
-pub returns : goal.returns
+pub returns-in_default : goal.returns-in_default
 unfolding said
-returns c =
-    rw (ne_eqb _ 102 c.if-letter-eq102.false, ne_eqb _ 97 c.if-letter-eq97.false)
+returns-in_default c =
+    rw (ne_eqb _ 102 (λ (e : c.args.letter ≡ 102). omega arith), ne_eqb _ 97 (λ (e : c.args.letter ≡ 97). omega arith))
