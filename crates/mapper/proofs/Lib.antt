@@ -1,4 +1,3 @@
 -- What the proofs use; Refusals has the promise of a refused map.
-pub mod Copies
 pub mod Passes
 pub mod Refusals

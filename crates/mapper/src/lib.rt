@@ -7,10 +7,10 @@ ghost use Rattle.image_parts.specs.Layout.{current, image_size_lem};
 ghost use Rattle.mapper_rules.specs.Walk.{span};
 ghost use Rattle.mapper.specs.Maps.{left, refuse, in_the_way, finished, map_over};
 
-use calls::INVALID_ENTRY;
+use calls::{INVALID_ENTRY, INVALID_REQUEST};
 use image_parts::layout::IMAGE;
 use mapper_blocks::block_in;
-use mapper_laws::Mapping;
+use mapper_laws::{Mapping, WORD};
 use mapper_lies::{all_lies, top_of};
 use mapper_numbers::bad_numbers;
 use mapper_pages::{ask_in, take_page};
@@ -18,45 +18,20 @@ use mapper_stores::store_in;
 use mapper_tables::Top;
 use mapper_words::permission_of;
 
-const INVALID_REQUEST: i64 = -4;
-
-const WORD: u64 = 8;
-
 // What an accepted map answers.
 const MAPPED: i64 = 0;
-
-// The bytes of one slice into another of its length.
-fn copy_bytes(from: &[u8], to: &mut [u8])
-    requires { length from.now ≡ length to.old }
-    ensures { is to ≡ from.now }
-{
-    let mut i: usize = 0;
-    while i < to.len() {
-        to[i] = from[i];
-        i += 1;
-    }
-}
 
 // A map whose numbers are not refused, over a sound state, free bytes and tables that lie right. The pages are asked for on a copy of the image first.
 fn map_lying(image: &mut [u8], arena: &mut [u64], first: u64, top: Top, q: Mapping) -> i64
     requires { (length image.old ≡ image_size_lem current) × (top.height ≤ 3) × (top.entries * span top.height ≤ 2 ^ 48) × (top.word + top.entries ≤ 2 ^ 50) }
     ensures { left result (is image) (is arena) ≡ refuse (in_the_way q first top (was arena)) (negsuc 3) (was image) (was arena) (finished q first top (was image) (was arena)) }
 {
-    let blocked = block_in(
-        &arena[..],
-        first,
-        q,
-        top.height,
-        0,
-        top.word,
-        top.entries,
-        false,
-    );
+    let blocked = block_in(&arena[..], first, q, top.height, 0, top.word, top.entries);
     if blocked {
         return INVALID_REQUEST;
     }
     let mut copy = [0u8; IMAGE];
-    copy_bytes(&image[..], &mut copy);
+    copy.copy_from_slice(&image[..]);
     let enough = ask_in(
         &arena[..],
         first,
@@ -67,7 +42,6 @@ fn map_lying(image: &mut [u8], arena: &mut [u64], first: u64, top: Top, q: Mappi
         top.word,
         top.entries,
         false,
-        true,
     );
     if enough {
         store_in(image, arena, first, q, top.height, 0, top.word, top.entries);

@@ -43,9 +43,7 @@ pub fn clear_table(arena: &mut [u64], first: u64, d: u64)
     ensures { arena.new ≡ cleared 512 first arena.old (512 * page_of d) }
 {
     let at = TABLE_WORDS * table_page(d);
-    let mut j: u64 = 0;
-    while j < TABLE_WORDS {
+    for j in 0..TABLE_WORDS {
         put_word(arena, first, at + j, 0);
-        j += 1;
     }
 }

@@ -1,7 +1,7 @@
 // Whether a block stands where a mapping wants a table.
 #![tactic(auto)]
 
-ghost use Rattle.std.specs.Prelude.{◌||◌, ◌≡◌, ◌+◌, ◌*◌, ◌^◌, ◌≤◌};
+ghost use Rattle.std.specs.Prelude.{◌≡◌, ◌+◌, ◌*◌, ◌^◌, ◌≤◌};
 ghost use Rattle.mapper_rules.specs.Walk.{span};
 ghost use Rattle.mapper_laws.specs.Mapping.{opens};
 ghost use Rattle.mapper_blocks.specs.Blocks.{blocked_at, blocked_in};
@@ -15,41 +15,26 @@ pub fn word_opens(q: Mapping, height: u64, e: u64) -> bool
     requires { height ≤ 3 }
     ensures { result ≡ opens q height e }
 {
-    let met = word_meets(q, height, e);
-    if met {
-        let whole = word_fits(q, height, e);
-        return !whole;
-    }
-    false
+    word_meets(q, height, e) && !word_fits(q, height, e)
 }
 
-// The entry d at a height, and all that it leads to; `found` tells whether a block was found before.
+// The entry d at a height, and all that it leads to.
 #[cycle(blocks)]
-fn block_at(arena: &[u64], first: u64, q: Mapping, height: u64, e: u64, d: u64, found: bool) -> bool
+fn block_at(arena: &[u64], first: u64, q: Mapping, height: u64, e: u64, d: u64) -> bool
     requires { (height ≤ 3) × (e + span height ≤ 2 ^ 50) }
-    ensures { result ≡ (found || blocked_at q first arena.now height e d) }
+    ensures { result ≡ blocked_at q first arena.now height e d }
 {
     if height == 0 {
-        return found;
+        return false;
     }
     if word_opens(q, height, e) {
         if is_table(d) {
-            return block_in(
-                arena,
-                first,
-                q,
-                height - 1,
-                e,
-                TABLE_WORDS * table_page(d),
-                TABLE_WORDS,
-                found,
-            );
+            let at = TABLE_WORDS * table_page(d);
+            return block_in(arena, first, q, height - 1, e, at, TABLE_WORDS);
         }
-        if is_block(height, d) {
-            return true;
-        }
+        return is_block(height, d);
     }
-    found
+    false
 }
 
 // The entries in the `count` words from `at` on, whose inputs begin at e.
@@ -62,18 +47,16 @@ pub fn block_in(
     e: u64,
     at: u64,
     count: u64,
-    found: bool,
 ) -> bool
     requires { (height ≤ 3) × (e + count * span height ≤ 2 ^ 50) × (at + count ≤ 2 ^ 50) }
-    ensures { result ≡ (found || blocked_in q first arena.now height e at count) }
+    ensures { result ≡ blocked_in q first arena.now height e at count }
 {
     let bytes = span_of(height);
-    let mut any = found;
-    let mut j: u64 = 0;
-    while j < count {
+    for j in 0..count {
         let d = word_at(arena, first, at + j);
-        any = block_at(arena, first, q, height, e + j * bytes, d, any);
-        j += 1;
+        if block_at(arena, first, q, height, e + j * bytes, d) {
+            return true;
+        }
     }
-    any
+    false
 }

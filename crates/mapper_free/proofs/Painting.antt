@@ -1,9 +1,9 @@
 -- Marks that are added. Assumes nothing.
 use mathlib.Core.Path.{◌≡◌, refl, sym, ◌∙◌, ap}
 use mathlib.Core.Logic.{inl, inr}
-use mathlib.Core.Bool.{Bool, true, false, ◌&&◌, ◌||◌, or-true, or-false, or_assoc}
+use mathlib.Core.Bool.{Bool, true, false, ◌&&◌, ◌||◌, and-false, or-true, or-false, or_assoc}
 use mathlib.Core.List.{List}
-use Prim.Native.Nat.{ℕ, ◌+◌, ◌-◌, ◌/◌, ◌≤◌, ◌<◌}
+use Prim.Native.Nat.{ℕ, zero, suc, ◌+◌, ◌-◌, ◌/◌, ◌≤◌, ◌<◌}
 use native.Mathlib.Omega.{arith}
 use native.Mathlib.Nat.{zero-add}
 use native.Mathlib.Numerals.{add-one}
@@ -16,59 +16,35 @@ use Rattle.mapper_free.specs.Free.{every, inside_of, all_inside, touches_at, tou
 
 -- ---- a run of tests
 
+pub every-not : (n i : ℕ) (f : ℕ → Bool) → i < n → f i ≡ false → every n f ≡ false
+unfolding every
+every-not zero i f l e = absurd (let z : ⊥ = omega arith in z)
+every-not (suc n) i f l e = elim (T-or-not (eqb i n)) [
+  | inl t ↦ let g : n ≡ i = let h = eqb→eq i n t in omega arith in rw (g, e) (and-false (every i f))
+  | inr t ↦ let d = neq i n t in ap (λ (x : Bool). x && f n) (every-not n i f (omega arith) e)
+]
+
 module _ (low high : ℕ) (S L : List ℕ) where
   pub none-tested : true ≡ all_inside low high S L 0
   unfolding every
   none-tested = refl
 
-  pub one-tested : (i : ℕ) (a r : Bool) → a ≡ all_inside low high S L i → r ≡ (a && inside_of low high S L i) → r ≡ all_inside low high S L (i + 1)
+  pub one-tested : (i : ℕ) → true ≡ all_inside low high S L i → true ≡ inside_of low high S L i → true ≡ all_inside low high S L (i + 1)
   unfolding every
-  one-tested i a r ae re = re ∙ rw (ae, add-one)
+  one-tested i all one = one ∙ rw (add-one, ← all)
+
+  pub one-outside : (i n : ℕ) → i < n → false ≡ inside_of low high S L i → false ≡ all_inside low high S L n
+  one-outside i n l e = sym (every-not n i (inside_of low high S L) l (sym e))
 
   pub all_tested : (i n : ℕ) (r : Bool) → r ≡ all_inside low high S L i → i ≡ n → r ≡ all_inside low high S L n
   all_tested i n r e g = e ∙ ap (all_inside low high S L) g
 
--- ---- marks between two places
-
-between : (b i k : ℕ) → b ≤ k → (leb b i && ltb i (k + 1)) ≡ ((leb b i && ltb i k) || eqb i k)
-between b i k l = elim (T-or-not (eqb i k)) [
-  | inl e ↦ let g = eqb→eq i k e in
-      rw (T_true (eqb i k) e) (T_true (leb b i && ltb i (k + 1)) (and_i (leb b i) (ltb i (k + 1)) (le→leb b i (omega arith)) (lt→ltb i (k + 1) (omega arith))) ∙ sym (or-true (leb b i && ltb i k)))
-  | inr e ↦ let d = neq i k e in
-      rw (T_false (eqb i k) e) (ap (λ (x : Bool). leb b i && x) (same_test (ltb i (k + 1)) (ltb i k)
-      (λ t. let h = ltb→lt i (k + 1) t in lt→ltb i k (omega arith)) (λ t. let h = ltb→lt i k t in lt→ltb i (k + 1) (omega arith))) ∙ sym (or-false (leb b i && ltb i k)))
-]
+-- ---- two tests that exclude each other
 
 nothing : (x y : Bool) → (T x → T y → ⊥) → (x && y) ≡ false
 nothing true true f = absurd (f tt tt)
 nothing true false f = refl
 nothing false y f = refl
-
-pub no-paint : (b e : ℕ) (m : List Bool) → e < b → Adds 0 (λ i. leb b i && ltb i e) m m
-no-paint b e m l = record {
-  same_length = refl;
-  marks = λ i h. rw (zero-add i) (sym (or-false (get_or m i false))
-      ∙ ap (λ (x : Bool). get_or m i false || x) (sym (nothing (leb b i) (ltb i e) (λ s t. let g = leb→le b i s in let k = ltb→lt i e t in let z : ⊥ = omega arith in z))));
-}
-
-pub none-painted : (b : ℕ) (m : List Bool) (i : ℕ) → get_or m i false ≡ (get_or m i false || (leb b i && ltb i b))
-none-painted b m i = sym (or-false (get_or m i false))
-    ∙ ap (λ (x : Bool). get_or m i false || x) (sym (nothing (leb b i) (ltb i b) (λ s t. let l = leb→le b i s in let h = ltb→lt i b t in let z : ⊥ = omega arith in z)))
-
-pub kept-length : (m m₀ : List Bool) (k : ℕ) → length m ≡ length m₀ → length (set m k true) ≡ length m₀
-kept-length m m₀ k e = length-set {A = Bool} m k true ∙ e
-
-pub one-painted : (b k : ℕ) (m₀ m m' : List Bool) → b ≤ k → k < length m₀ → length m ≡ length m₀ → ((i : ℕ) → i < length m₀ → get_or m i false ≡ (get_or m₀ i false || (leb b i && ltb i k))) → m' ≡ set m k true
-    → (i : ℕ) → i < length m₀ → get_or m' i false ≡ (get_or m₀ i false || (leb b i && ltb i (k + 1)))
-one-painted b k m₀ m m' l few len marks e i h =
-    ap (λ (x : List Bool). get_or x i false) e ∙ elim (T-or-not (eqb i k)) [
-      | inl t ↦ let g = eqb→eq i k t in
-          rw g (get_or-set_same m k true false (omega arith) ∙ sym (or-true (get_or m₀ k false)) ∙ ap (λ (x : Bool). get_or m₀ k false || x) (sym (T_true (leb b k && ltb k (k + 1)) (and_i (leb b k) (ltb k (k + 1)) (le→leb b k l) (lt→ltb k (k + 1) (omega arith))))))
-      | inr t ↦ get_or-set_other m k i true false (neq i k t) ∙ marks i h ∙ ap (λ (x : Bool). get_or m₀ i false || x) (sym (between b i k l ∙ rw (T_false (eqb i k) t) (or-false (leb b i && ltb i k))))
-    ]
-
-pub all-painted : (b k e : ℕ) (m m' : List Bool) → length m' ≡ length m → ((i : ℕ) → i < length m → get_or m' i false ≡ (get_or m i false || (leb b i && ltb i k))) → k ≡ e → Adds 0 (λ i. leb b i && ltb i e) m m'
-all-painted b k e m m' len marks g = record { same_length = len; marks = λ i h. rw (zero-add i) (marks i h ∙ ap (λ (x : ℕ). get_or m i false || (leb b i && ltb i x)) g) }
 
 -- ---- none, more, and others of the same pages
 

@@ -1,11 +1,9 @@
 -- The free ranges of the allocator in an image, by address, and the pages that they touch. Assumes nothing.
-use Rattle.std.specs.Prelude.{Bool, true, false, ◌&&◌, ◌||◌, List, ◌≡◌, ℕ, zero, suc, ◌+◌, ◌/◌, ◌<◌, leb, ltb, length, get_or}
+use Rattle.std.specs.Prelude.{Bool, true, false, ◌&&◌, ◌||◌, Option, None, List, ◌≡◌, ℕ, zero, suc, ◌+◌, ◌/◌, ◌<◌, leb, ltb, length, get_or}
 use Rattle.rules.specs.Rules.{Range}
 use Rattle.pool_state.specs.Shown.{pool}
 use Rattle.pool_state.specs.Sound.{book_of}
 use Rattle.pool_listing.specs.Listing.{Lists}
-use Rattle.pool_listing.specs.declared.Listed.{Listed}
-use Rattle.pool_listing.specs.declared.Listed.TheVariants.{Short}
 use Rattle.image_parts.specs.Layout.{current}
 use Rattle.image_reading.specs.Reading.{state_in_lem, readable}
 use Rattle.mapper_laws.specs.Tree.{some}
@@ -14,8 +12,8 @@ abbrev pub chain_in : List ℕ → List Range
 chain_in l = (book_of pool (state_in_lem current l)).chain
 
 -- the ranges are listed in two slices; of the image of no sound state there is no listing
-pub record Frees (l starts lasts : List ℕ) (r : Listed) (starts' lasts' : List ℕ) : Type 0 where
-  pub unsound : readable current l ≡ false → r ≡ Short
+pub record Frees (l starts lasts : List ℕ) (r : Option ℕ) (starts' lasts' : List ℕ) : Type 0 where
+  pub unsound : readable current l ≡ false → r ≡ None
   pub sound : readable current l ≡ true → Lists (chain_in l) starts lasts r starts' lasts'
 
 -- ---- n ranges, the i-th from the i-th start to the i-th last byte

@@ -6,57 +6,42 @@ ghost use Rattle.pool_state.specs.Lent.{was, is};
 ghost use Rattle.mapper_free.specs.Free.{Frees, all_inside, touches, Adds};
 
 use image_reading::read_current;
-use pool_listing::{Listed, list_in};
-use pool_state::{LISTS, NONE, POOL, RecordIndex};
+use mapper_laws::PAGE;
+use pool_listing::list_in;
+use pool_state::new;
 
-const PAGE: u64 = 4096;
-
-// The first and last bytes of the free ranges, by address, into two slices; Short also where this is the image of no sound state.
-pub fn free_ranges(image: &[u8], starts: &mut [u64], lasts: &mut [u64]) -> Listed
+// The first and last bytes of the free ranges, by address, into two slices, and their number; none also where this is the image of no sound state.
+pub fn free_ranges(image: &[u8], starts: &mut [u64], lasts: &mut [u64]) -> Option<usize>
     ensures { Frees image.now (was starts) (was lasts) result (is starts) (is lasts) }
 {
-    let mut lowest: u64 = 0;
-    let mut total: u64 = 0;
-    let mut first: u16 = NONE;
-    let mut heads = [NONE; LISTS];
-    let mut start = [0u64; POOL];
-    let mut end = [0u64; POOL];
-    let mut enabled = [false; POOL];
-    let mut previous = [NONE; POOL];
-    let mut next = [NONE; POOL];
-    let mut lprev = [NONE; POOL];
-    let mut lnext = [NONE; POOL];
+    let mut lowest = 0;
+    let mut state = new();
     let readable = read_current(
         image,
         &mut lowest,
-        &mut total,
-        &mut first,
-        &mut heads,
-        &mut start,
-        &mut end,
-        &mut enabled,
-        &mut previous,
-        &mut next,
-        &mut lprev,
-        &mut lnext,
+        &mut state.free_size,
+        &mut state.first_entry.0,
+        &mut state.free_list,
+        &mut state.start,
+        &mut state.end,
+        &mut state.enabled,
+        &mut state.previous,
+        &mut state.next,
+        &mut state.list_prev,
+        &mut state.list_next,
     );
     if readable {
-        return list_in(&start, &end, &next, RecordIndex(first), starts, lasts);
+        let first = state.first_entry;
+        return list_in(&state.start, &state.end, &state.next, first, starts, lasts);
     }
-    Listed::Short
+    None
 }
 
-// The range lies among the bytes from low to before high, and so did those before.
-fn range_inside(low: u64, high: u64, start: u64, last: u64, all: bool) -> bool
-    ensures { result ≡ (all && (leb low start && ltb last high)) }
+// The range lies among the bytes from low to before high.
+fn range_inside(low: u64, high: u64, start: u64, last: u64) -> bool
+    ensures { result ≡ (leb low start && ltb last high) }
 {
-    if all {
-        if low <= start {
-            return last < high;
-        }
-        return false;
-    }
-    false
+    low <= start && last < high
 }
 
 // All of the first `count` ranges do.
@@ -64,13 +49,12 @@ pub fn ranges_inside(low: u64, high: u64, starts: &[u64], lasts: &[u64], count: 
     requires { (count ≤ length starts.now) × (count ≤ length lasts.now) }
     ensures { result ≡ all_inside low high starts.now lasts.now count }
 {
-    let mut all = true;
-    let mut i: usize = 0;
-    while i < count {
-        all = range_inside(low, high, starts[i], lasts[i], all);
-        i += 1;
+    for i in 0..count {
+        if !range_inside(low, high, starts[i], lasts[i]) {
+            return false;
+        }
     }
-    all
+    true
 }
 
 // The marks from `begin` to before `end` are set.
@@ -78,13 +62,8 @@ fn paint(marks: &mut [bool], begin: usize, end: usize)
     requires { end ≤ length marks.old }
     ensures { Adds 0 (λ i. leb begin i && ltb i end) (was marks) (is marks) }
 {
-    if end < begin {
-        return;
-    }
-    let mut k = begin;
-    while k < end {
-        marks[k] = true;
-        k += 1;
+    if begin < end {
+        marks[begin..end].fill(true);
     }
 }
 
@@ -118,11 +97,9 @@ pub fn mark_free(marks: &mut [bool], lo: u64, starts: &[u64], lasts: &[u64], cou
     requires { (count ≤ length starts.now) × (count ≤ length lasts.now) }
     ensures { Adds lo (touches starts.now lasts.now count) (was marks) (is marks) }
 {
-    let mut i: usize = 0;
-    while i < count {
+    for i in 0..count {
         let from = starts[i] / PAGE;
         let to = lasts[i] / PAGE;
         mark_pages(marks, lo, from, to);
-        i += 1;
     }
 }

@@ -1,6 +1,7 @@
 -- Ranges that are listed in two slices, and what lies on each way through. Assumes nothing.
 use mathlib.Core.Path.{◌≡◌, refl, sym, ◌∙◌, ap}
 use mathlib.Core.Bool.{Bool, true, false, ◌&&◌}
+use Rattle.std.specs.Prelude.{Option, None, Some}
 use mathlib.Core.List.{List, [], ◌∷◌, ◌++◌, map}
 use Prim.Native.Nat.{ℕ, zero, suc, ◌/◌, ◌≤◌, ◌<◌}
 use native.Mathlib.Omega.{arith}
@@ -10,8 +11,6 @@ use borrow.Author.Tests.{le-leb, lt-leb, le-ltb}
 use Rattle.rules.specs.Rules.{Range, start_of}
 use Rattle.pool_state.specs.Shown.{pool}
 use Rattle.pool_listing.specs.Listing.{last_of, short, listed_of, shown}
-use Rattle.pool_listing.specs.declared.Listed.{Listed}
-use Rattle.pool_listing.specs.declared.Listed.TheVariants.{Count, Short}
 use Rattle.image_parts.specs.Layout.{current}
 use Rattle.image_reading.specs.Reading.{state_in_lem, readable}
 use Rattle.pool_listing.proofs.Walk.{few}
@@ -52,19 +51,19 @@ module _ (c : List Range) (S L old-s old-l : List ℕ) (s : S ≡ map start_of c
 
 -- ---- what the listing of an image tells
 
-abbrev is_count : Listed → Bool
-is_count (Count n) = true
-is_count Short = false
+abbrev is_count : Option ℕ → Bool
+is_count (Some n) = true
+is_count None = false
 
-abbrev count_of : Listed → ℕ
-count_of (Count n) = n
-count_of Short = 0
+abbrev count_of : Option ℕ → ℕ
+count_of (Some n) = n
+count_of None = 0
 
 -- a sound state has no more ranges than records
 chain-few : (l : List ℕ) → readable current l ≡ true → length (chain_in l) ≤ pool
 chain-few l good = few pool (chain_in l) (read-ordered l (state_in_lem current l) good refl).runs.listed
 
-module _ (l : List ℕ) (S L S' L' : List ℕ) (rs : length S ≡ pool) (rl : length L ≡ pool) (r : Listed) (f : Frees l S L r S' L') where
+module _ (l : List ℕ) (S L S' L' : List ℕ) (rs : length S ≡ pool) (rl : length L ≡ pool) (r : Option ℕ) (f : Frees l S L r S' L') where
   abbrev c : List Range
   c = chain_in l
 
@@ -72,7 +71,7 @@ module _ (l : List ℕ) (S L S' L' : List ℕ) (rs : length S ≡ pool) (rl : le
     fits : short c (length S) (length L) ≡ false
     fits = let many = chain-few l good in rw (le-ltb (length S) (length c) (omega arith), le-ltb (length L) (length c) (omega arith))
 
-    listed : r ≡ Count (length c)
+    listed : r ≡ Some (length c)
     unfolding listed_of
     listed = (f.sound good).answer ∙ rw fits
 
@@ -91,16 +90,16 @@ module _ (l : List ℕ) (S L S' L' : List ℕ) (rs : length S ≡ pool) (rl : le
       go true e = e
       go false e = absurd (true≢false (sym t ∙ ap is_count (f.unsound e)))
 
-  pub counted : (n : ℕ) → r ≡ Count n → n ≡ length c
+  pub counted : (n : ℕ) → r ≡ Some n → n ≡ length c
   counted n e = ap count_of (sym e ∙ listed (soundly (ap is_count e)))
 
-  pub count_fits : (n : ℕ) → r ≡ Count n → n ≤ pool
+  pub count_fits : (n : ℕ) → r ≡ Some n → n ≤ pool
   count_fits n e = let many = chain-few l (soundly (ap is_count e)) in let g = counted n e in omega arith
 
   -- ---- on each way through
 
   module _ (base high n : ℕ) (t : Top) (A : List ℕ) (low : base ≤ output_top) (h : high ≡ top_byte_lem base (length A)) where
-    pub lies-listed : r ≡ Count n → (x : Bool) → x ≡ (all_inside base high S' L' n && apart (base / 4096) (high / 4096) (touches S' L' n) (reached_in (base / 8) A t)) → x ≡ lies base t l A
+    pub lies-listed : r ≡ Some n → (x : Bool) → x ≡ (all_inside base high S' L' n && apart (base / 4096) (high / 4096) (touches S' L' n) (reached_in (base / 8) A t)) → x ≡ lies base t l A
     unfolding lies free_lies tables_lie
     lies-listed e x k =
         let good = soundly (ap is_count e) in
@@ -113,7 +112,7 @@ module _ (l : List ℕ) (S L S' L' : List ℕ) (rs : length S ≡ pool) (rl : le
         ∙ ap (λ (g : ℕ → Bool). all_inside base high (map start_of c) (map last_of c) (length c) && apart (base / 4096) (high / 4096) g (reached_in (base / 8) A t)) (same-touched c S' L' os ol st la)
         ∙ rw (h, le-leb base output_top low, good)
 
-    pub lies-unlisted : r ≡ Short → false ≡ lies base t l A
+    pub lies-unlisted : r ≡ None → false ≡ lies base t l A
     unfolding lies
     lies-unlisted e = go (readable current l) refl
       where

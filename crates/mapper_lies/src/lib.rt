@@ -9,24 +9,13 @@ ghost use Rattle.mapper_tables.specs.Reached.{reached_in};
 ghost use Rattle.mapper_lies.specs.Lies.{top_of, top_byte_lem, lies};
 
 use mapper_free::{free_ranges, ranges_inside};
-use mapper_numbers::top_bytes;
+use mapper_laws::{PAGE, WORD};
+use mapper_numbers::{BADDR_VALUES, SL0_VALUES, T0SZ_VALUES, top_bytes};
 use mapper_tables::{Top, tables_apart};
-use pool_listing::Listed;
 use pool_state::POOL;
-
-const PAGE: u64 = 4096;
-
-const WORD: u64 = 8;
 
 // No table word names a byte from here on.
 const TOP: u64 = 0x1000000000000;
-
-// T0SZ is bits 5:0 of VTCR_EL2 and SL0 bits 7:6; BADDR is bits 47:1 of VTTBR_EL2.
-const T0SZ_VALUES: u64 = 64;
-
-const SL0_VALUES: u64 = 4;
-
-const BADDR_VALUES: u64 = 0x800000000000;
 
 // The top table of registers that are not refused.
 pub fn top_of(vttbr: u64, vtcr: u64) -> Top
@@ -99,7 +88,7 @@ pub fn all_lies(image: &[u8], arena: &[u64], base: u64, top: Top) -> bool
     let mut lasts = [0u64; POOL];
     let listed = free_ranges(image, &mut starts, &mut lasts);
     match listed {
-        Listed::Count(count) => ranges_lie(arena, base, high, top, &starts, &lasts, count),
-        Listed::Short => false,
+        Some(count) => ranges_lie(arena, base, high, top, &starts, &lasts, count),
+        None => false,
     }
 }

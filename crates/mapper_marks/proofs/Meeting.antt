@@ -83,6 +83,16 @@ module _ (x : Limits) where
       unfolding meet_all joined
       none_yet = refl
 
+      -- what was told stays so, whatever comes after
+      pub told_all : (m j k n' : ℕ) (m' : List Bool) → k ≡ j + m → run false n' m' ≡ meet_all x (tables_in b A h w j) s → run false n' m' ≡ meet_all x (tables_in b A h w k) s
+      unfolding joined
+      told_all zero j k n' m' g e = let z : j ≡ k = omega arith in e ∙ ap (λ (i : ℕ). meet_all x (tables_in b A h w i) s) z
+      told_all (suc m) j zero n' m' g e = absurd (let z : ⊥ = omega arith in z)
+      told_all (suc m) j (suc k) n' m' g e =
+          told-before (tables_at b A h (shows b A (w + k))) n' m'
+          ∙ ap (meet_all x (tables_at b A h (shows b A (w + k)))) (told_all m j k n' m' (omega arith) e)
+          ∙ meet-more (tables_in b A h w k) (tables_at b A h (shows b A (w + k))) s
+
       pub one_more : (j d : ℕ) (a r : Run) → d ≡ shows b A (w + j) → a ≡ meet_all x (tables_in b A h w j) s → r ≡ meet_all x (tables_at b A h d) a → r ≡ meet_all x (tables_in b A h w (j + 1)) s
       unfolding joined
       one_more j d a r de ae re = re ∙ rw (de, ae, add-one) (meet-more (tables_in b A h w j) (tables_at b A h (shows b A (w + j))) s)

@@ -64,7 +64,7 @@ pub fn meet_page(marks: &mut [bool], left: &mut u64, limits: Limits, page: u64) 
     true
 }
 
-// The table that a word leads to, and all below it; `fine` tells whether all before were.
+// The table that a word leads to, and all below it; whether all of them were fine.
 #[cycle(marks)]
 fn mark_at(
     arena: &[u64],
@@ -74,17 +74,16 @@ fn mark_at(
     limits: Limits,
     height: u64,
     d: u64,
-    fine: bool,
 ) -> bool
-    ensures { run result (is left) (is marks) ≡ meet_all limits (tables_at first arena.now height d) (run fine (was left) (was marks)) }
+    ensures { run result (is left) (is marks) ≡ meet_all limits (tables_at first arena.now height d) (run true (was left) (was marks)) }
 {
-    if fine {
-        if height == 0 {
-            return true;
-        }
-        if is_table(d) {
-            let page = table_page(d);
-            let met = meet_page(marks, left, limits, page);
+    if height == 0 {
+        return true;
+    }
+    if is_table(d) {
+        let page = table_page(d);
+        if meet_page(marks, left, limits, page) {
+            let at = TABLE_WORDS * page;
             return mark_in(
                 arena,
                 first,
@@ -92,17 +91,16 @@ fn mark_at(
                 left,
                 limits,
                 height - 1,
-                TABLE_WORDS * page,
+                at,
                 TABLE_WORDS,
-                met,
             );
         }
-        return true;
+        return false;
     }
-    false
+    true
 }
 
-// The tables that the `count` words from `at` on lead to.
+// The tables that the `count` words from `at` on lead to; after one that is told, none is looked at.
 #[cycle(marks)]
 pub fn mark_in(
     arena: &[u64],
@@ -113,17 +111,15 @@ pub fn mark_in(
     height: u64,
     at: u64,
     count: u64,
-    fine: bool,
 ) -> bool
     requires { at + count ≤ 2 ^ 50 }
-    ensures { run result (is left) (is marks) ≡ meet_all limits (tables_in first arena.now height at count) (run fine (was left) (was marks)) }
+    ensures { run result (is left) (is marks) ≡ meet_all limits (tables_in first arena.now height at count) (run true (was left) (was marks)) }
 {
-    let mut all = fine;
-    let mut j: u64 = 0;
-    while j < count {
+    for j in 0..count {
         let d = word_at(arena, first, at + j);
-        all = mark_at(arena, first, marks, left, limits, height, d, all);
-        j += 1;
+        if !mark_at(arena, first, marks, left, limits, height, d) {
+            return false;
+        }
     }
-    all
+    true
 }

@@ -5,24 +5,21 @@ ghost use Rattle.std.specs.Prelude.{◌≡◌, ◌+◌, ◌-◌, ltb};
 ghost use Rattle.mapper_rules.specs.Walk.{input_top};
 ghost use Rattle.mapper_rules.specs.Numbers.{outside, bad_level_lem, top_bytes_lem, bad_registers_lem, bad_range_lem, bad_numbers_lem};
 
-const PAGE: u64 = 4096;
+use mapper_laws::PAGE;
 
 // T0SZ is bits 5:0 of VTCR_EL2 and SL0 bits 7:6; BADDR is bits 47:1 of VTTBR_EL2.
-const T0SZ_VALUES: u64 = 64;
+pub const T0SZ_VALUES: u64 = 64;
 
-const SL0_VALUES: u64 = 4;
+pub const SL0_VALUES: u64 = 4;
 
-const BADDR_VALUES: u64 = 0x800000000000;
+pub const BADDR_VALUES: u64 = 0x800000000000;
 
 const LAST_OUTPUT: u64 = 0xffffffffffff;
 
 fn is_outside(low: u64, high: u64, t: u64) -> bool
     ensures { result ≡ outside low high t }
 {
-    if t < low {
-        return true;
-    }
-    high < t
+    !(low..=high).contains(&t)
 }
 
 fn bad_level(sl: u64, t: u64) -> bool
@@ -74,10 +71,10 @@ pub fn last_input(vtcr: u64) -> u64
 pub fn below_sum(x: u64, a: u64, b: u64) -> bool
     ensures { result ≡ ltb x (a + b) }
 {
-    if x < a {
-        return true;
+    match a.checked_add(b) {
+        Some(sum) => x < sum,
+        None => true,
     }
-    x - a < b
 }
 
 fn bad_range(vtcr: u64, output: u64, input: u64, size: u64) -> bool

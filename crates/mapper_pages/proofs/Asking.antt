@@ -8,7 +8,7 @@ use native.Mathlib.Omega.{arith}
 use native.Mathlib.Nat.{mod-eq_of_lt}
 use native.Mathlib.Numerals.{add-one}
 use lib.IntN.{ℤ, pos, negsuc}
-use lib.Signed.{lt_z}
+use lib.Signed.{lt_z, le_z}
 use lib.Dec.{T}
 use lib.IntN.{nat_abs}
 use lib.Signed.{non_neg}
@@ -16,7 +16,7 @@ use mir.Syntax.{w64}
 use mir.Val.{Fits, SFits}
 use Rattle.linked_lists.proofs.Laws.{true≢false}
 use lib.Dec.{ltb}
-use borrow.Author.Tests.{ltb-true}
+use borrow.Author.Tests.{ltb-true, le-ltb, le-leb}
 use Rattle.pages.specs.Pages.{raised, bytes_of_lem}
 use Rattle.rules_laws.proofs.Lists.{if}
 use Rattle.rules.specs.Rules.{Allocate}
@@ -41,6 +41,13 @@ ltb-zero a t = let l = ltb-true a 0 t in let z : ⊥ = omega arith in z
 pub signed_test : (i j : ℤ) (t : Bool) → j ≡ i → lt_z j (pos 0) ≡ t → lt_z i (pos 0) ≡ t
 signed_test i j t e l = ap (λ (k : ℤ). lt_z k (pos 0)) (sym e) ∙ l
 
+pub signed_order : (i j : ℤ) → j ≡ i → lt_z i (pos 0) ≡ not (le_z (pos 0) j)
+signed_order i j e = go i ∙ ap (λ (k : ℤ). not (le_z (pos 0) k)) (sym e)
+  where
+    go : (k : ℤ) → lt_z k (pos 0) ≡ not (le_z (pos 0) k)
+    go (pos a) = rw (le-ltb a 0 (omega arith), le-leb 0 a (omega arith))
+    go (negsuc k) = refl
+
 pub no_address : (i : ℤ) → lt_z i (pos 0) ≡ true → 0 ≡ address_from i
 no_address (pos a) t = absurd (ltb-zero a t)
 no_address (negsuc k) t = refl
@@ -55,7 +62,7 @@ address-fits (negsuc k) j e f t = absurd (true≢false (signed_test (negsuc k) j
 
 -- ---- one page more
 
-pub asked-none : (l : List ℕ) → supply false l ≡ asked (supply false l)
+asked-none : (l : List ℕ) → supply false l ≡ asked (supply false l)
 unfolding asked
 asked-none l = refl
 
@@ -143,10 +150,9 @@ module _ (q : Mapping) (b : ℕ) (A : List ℕ) where
       er ∙ ap (taken (wants_in q b A true (h - 1) e w 512)) ea ∙ taken_more 1 (wants_in q b A true (h - 1) e w 512) s ∙ ap (λ (i : ℕ). taken i s) (fresh-wants h e d w n o t)
 
   -- where its page is not to be had, none of those below it is asked for
-  pub at-wanting : (h e d : ℕ) (s : Supply) (f : Bool) (l : List ℕ) → h ≢ 0 → opens q h e ≡ true → is_table_lem d ≡ false
-      → f ≡ false → supply f l ≡ asked s → supply f l ≡ taken (wants_at q b A h e d) s
-  at-wanting h e d s f l n o t none ea =
-      at-fresh h e d 0 s (supply f l) n o t ea (ap (λ (c : Bool). supply c l) none ∙ no_more (wants_in q b A true (h - 1) e 0 512) l ∙ ap (λ (c : Bool). taken (wants_in q b A true (h - 1) e 0 512) (supply c l)) (sym none))
+  pub at-wanting : (h e d : ℕ) (s : Supply) (l : List ℕ) → h ≢ 0 → opens q h e ≡ true → is_table_lem d ≡ false
+      → supply false l ≡ asked s → supply false l ≡ taken (wants_at q b A h e d) s
+  at-wanting h e d s l n o t ea = at-fresh h e d 0 s (supply false l) n o t ea (no_more (wants_in q b A true (h - 1) e 0 512) l)
 
   -- ---- one entry after another
 
@@ -160,6 +166,15 @@ module _ (q : Mapping) (b : ℕ) (A : List ℕ) where
     unfolding sum
     one_more j t d a te de ae re =
         re ∙ rw (te, de, ae, add-one) (taken_more (wants_in q b A fresh h e w j) (wants_at q b A h (e + j * span h) (cond fresh 0 (shows b A (w + j)))) s)
+
+    -- after a refusal none is asked for
+    pub refused_all : (m j k : ℕ) (l : List ℕ) → k ≡ j + m → supply false l ≡ taken (wants_in q b A fresh h e w j) s → supply false l ≡ taken (wants_in q b A fresh h e w k) s
+    unfolding sum
+    refused_all zero j k l g r = let z : j ≡ k = omega arith in r ∙ ap (λ (i : ℕ). taken (wants_in q b A fresh h e w i) s) z
+    refused_all (suc m) j zero l g r = absurd (let z : ⊥ = omega arith in z)
+    refused_all (suc m) j (suc k) l g r =
+        let one = wants_at q b A h (e + k * span h) (cond fresh 0 (shows b A (w + k))) in
+        no_more one l ∙ ap (taken one) (refused_all m j k l (omega arith) r) ∙ taken_more (wants_in q b A fresh h e w k) one s
 
     pub all-taken : (j n : ℕ) {r : Supply} → r ≡ taken (wants_in q b A fresh h e w j) s → j ≡ n → r ≡ taken (wants_in q b A fresh h e w n) s
     all-taken j n k g = k ∙ ap (λ (i : ℕ). taken (wants_in q b A fresh h e w i) s) g

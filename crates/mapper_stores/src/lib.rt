@@ -73,9 +73,7 @@ pub fn store_in(
     ensures { held (is arena) (is image) ≡ store_in_lem q first height e at count (held (was arena) (was image)) }
 {
     let bytes = span_of(height);
-    let mut j: u64 = 0;
-    while j < count {
+    for j in 0..count {
         store_at(image, arena, first, q, height, e + j * bytes, at + j);
-        j += 1;
     }
 }

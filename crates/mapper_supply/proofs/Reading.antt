@@ -5,6 +5,7 @@ use mathlib.Core.List.{List}
 use Prim.Native.Nat.{ℕ, ◌≤◌}
 use lib.IntN.{pos}
 use lib.Signed.{lt_z}
+use Rattle.std.specs.Prelude.{Ok, Err}
 use Rattle.linked_lists.specs.Links.{none}
 use Rattle.linked_lists.proofs.Laws.{true≢false}
 use Rattle.rules.specs.Rules.{Book, Voucher, total, step, voucher}
@@ -20,9 +21,8 @@ use Rattle.pool_state.specs.declared.MemoryAllocator.{MemoryAllocator}
 use Rattle.account_state.specs.Account.{account, is_sound_lem}
 use Rattle.account_state.specs.declared.Entered.{Entered}
 use Rattle.account_state.proofs.Exact.{passes-sound}
-use Rattle.calls.specs.Calls.{number_of, address_of, answer_of, voucher_of, is_accepted, signed_of, address_from}
-use Rattle.calls.specs.declared.Answer.{Answer}
-use Rattle.calls.specs.declared.Answer.TheVariants.{Accepted, NoEntry, InvalidEntry, NoMemory, InvalidRequest}
+use Rattle.calls.specs.Calls.{Answer, number_of, address_of, answer_of, voucher_of, is_accepted, signed_of, address_from}
+use Rattle.calls.specs.declared.MemoryError.TheVariants.{NoEntry, InvalidEntry, NoMemory, InvalidRequest}
 use Rattle.calls.proofs.Numbers.{refusal-negative, numbered}
 use Rattle.account_calls.specs.Made.{held}
 use Rattle.account_calls.proofs.Steps.{sound-held, made_held}
@@ -71,11 +71,11 @@ read_first l r =
 
 -- an answer that is no refusal
 took : (k : Answer) → is_accepted k ≡ true → (number_of k ≡ 0) × (address_from (signed_of k) ≡ address_of k)
-took (Accepted a) e = (refl, refl)
-took NoEntry e = true≢false (sym e)
-took InvalidEntry e = true≢false (sym e)
-took NoMemory e = true≢false (sym e)
-took InvalidRequest e = true≢false (sym e)
+took (Ok a) e = (refl, refl)
+took (Err NoEntry) e = true≢false (sym e)
+took (Err InvalidEntry) e = true≢false (sym e)
+took (Err NoMemory) e = true≢false (sym e)
+took (Err InvalidRequest) e = true≢false (sym e)
 
 module _ (b : Book) (l : List ℕ) (r : Reads b l) where
   -- what the door returns

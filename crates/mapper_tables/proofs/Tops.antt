@@ -2,7 +2,7 @@
 use mathlib.Core.Path.{◌≡◌, refl, ◌∙◌, ap}
 use mathlib.Core.Bool.{Bool, true, false, ◌&&◌, ◌||◌}
 use mathlib.Core.List.{List, ◌++◌}
-use Prim.Native.Nat.{ℕ, ◌+◌, ◌-◌, ◌<◌}
+use Prim.Native.Nat.{ℕ, zero, suc, ◌+◌, ◌-◌, ◌<◌}
 use native.Mathlib.Omega.{arith}
 use native.Mathlib.Nat.{add-zero}
 use native.Mathlib.Numerals.{add-one}
@@ -31,11 +31,23 @@ module _ (x : Limits) where
   unfolding joined
   next-page p k = rw (add-zero, add-one)
 
-  pub page-more : (p k : ℕ) (s a r : Run) → a ≡ meet_all x (pages_from p k) s → r ≡ meet_all x (pages_from (p + k) 1) a → r ≡ meet_all x (pages_from p (k + 1)) s
-  page-more p k s a r ae re = re ∙ ap (meet_all x (pages_from (p + k) 1)) ae ∙ meet-more x (pages_from p k) (pages_from (p + k) 1) s ∙ ap (λ (l : List ℕ). meet_all x l s) (next-page p k)
+  pub page-more : (p k : ℕ) (s a r : Run) → a ≡ meet_all x (pages_from p k) s → r ≡ meet x (p + k) a → r ≡ meet_all x (pages_from p (k + 1)) s
+  page-more p k s a r ae re = re ∙ one-page (p + k) a ∙ ap (meet_all x (pages_from (p + k) 1)) ae ∙ meet-more x (pages_from p k) (pages_from (p + k) 1) s ∙ ap (λ (l : List ℕ). meet_all x l s) (next-page p k)
 
   pub pages-all : (p k n : ℕ) (s r : Run) → r ≡ meet_all x (pages_from p k) s → k ≡ n → r ≡ meet_all x (pages_from p n) s
   pages-all p k n s r e g = e ∙ ap (λ (i : ℕ). meet_all x (pages_from p i) s) g
+
+  one-told : (p n' : ℕ) (m' : List Bool) → run false n' m' ≡ meet x p (run false n' m')
+  unfolding meet
+  one-told p n' m' = refl
+
+  -- what was told stays so, whatever comes after
+  pub pages-told : (p : ℕ) (s : Run) (m j k n' : ℕ) (m' : List Bool) → k ≡ j + m → run false n' m' ≡ meet_all x (pages_from p j) s → run false n' m' ≡ meet_all x (pages_from p k) s
+  pages-told p s zero j k n' m' g e = pages-all p j k s (run false n' m') e (omega arith)
+  pages-told p s (suc m) j zero n' m' g e = absurd (let z : ⊥ = omega arith in z)
+  pages-told p s (suc m) j (suc k) n' m' g e =
+      pages-all p (k + 1) (suc k) s (run false n' m')
+      (page-more p k s (run false n' m') (run false n' m') (pages-told p s m j k n' m' (omega arith) e) (one-told (p + k) n' m')) (add-one k)
 
   -- m₀ has no mark; m those of f in the window
   pub window-told : (f : ℕ → Bool) (a b : List ℕ) (m₀ m m₁ m₂ : List Bool) (n₁ n₂ : ℕ) (c r : Bool) → length m₀ ≡ window → ((i : ℕ) → i < length m₀ → get_or m₀ i false ≡ false) → Adds x.lo f m₀ m

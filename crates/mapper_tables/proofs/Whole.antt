@@ -1,7 +1,7 @@
 -- Pages that lie apart in every window lie apart. Assumes nothing.
-use mathlib.Core.Path.{◌≡◌, refl, ◌∙◌, ap}
+use mathlib.Core.Path.{◌≡◌, refl, sym, ◌∙◌, ap}
 use mathlib.Core.Logic.{inl, inr}
-use mathlib.Core.Bool.{Bool, true, ◌&&◌}
+use mathlib.Core.Bool.{Bool, true, false, ◌&&◌}
 use mathlib.Core.List.{List}
 use Prim.Native.Nat.{ℕ, zero, suc, ◌+◌, ◌-◌, ◌*◌, ◌/◌, ◌<◌}
 use native.Mathlib.Omega.{arith}
@@ -13,6 +13,7 @@ use Rattle.mapper_laws.specs.Tree.{In}
 use Rattle.mapper_laws.specs.Marks.{in_window, part, Marks, fine}
 use Rattle.mapper_laws.proofs.Windows.{Fine, fine→, fine←}
 use Rattle.mapper_free.specs.Free.{every}
+use Rattle.mapper_free.proofs.Painting.{every-not}
 use Rattle.mapper_tables.specs.Apart.{inside_all, apart, window, apart_in, apart_up_to, windows}
 use Rattle.mapper_tables.proofs.Pages.{inside-in, few-pages, in-part→, in-part←, once-part, once_by}
 
@@ -104,6 +105,9 @@ module _ (low high : ℕ) (f : ℕ → Bool) (l : List ℕ) where
   unfolding every
   no-window = refl
 
-  pub one-window : (k lo : ℕ) (a r : Bool) → lo ≡ low + k * window → a ≡ apart_up_to low high f l k → r ≡ (a && apart_in low high f l lo) → r ≡ apart_up_to low high f l (k + 1)
+  pub one-window : (k : ℕ) → true ≡ apart_up_to low high f l k → true ≡ apart_in low high f l (at k) → true ≡ apart_up_to low high f l (k + 1)
   unfolding every
-  one-window k lo a r le ae re = re ∙ rw (le, ae, add-one)
+  one-window k all one = one ∙ rw (add-one, ← all)
+
+  pub window-not : (k n : ℕ) → k < n → false ≡ apart_in low high f l (at k) → false ≡ apart_up_to low high f l n
+  window-not k n h e = sym (every-not n k (λ i. apart_in low high f l (at i)) h (sym e))

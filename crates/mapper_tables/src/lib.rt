@@ -24,31 +24,20 @@ pub struct Top {
     pub height: u64,
 }
 
-// One page more, if all before were fine.
-fn meet_next(marks: &mut [bool], left: &mut u64, limits: Limits, page: u64, fine: bool) -> bool
-    ensures { run result (is left) (is marks) ≡ meet_all limits (pages_from page 1) (run fine (was left) (was marks)) }
-{
-    if fine {
-        return meet_page(marks, left, limits, page);
-    }
-    false
-}
-
-// The `count` pages from `page` on.
+// The `count` pages from `page` on, up to the first that is told.
 fn meet_pages(marks: &mut [bool], left: &mut u64, limits: Limits, page: u64, count: u64) -> bool
     requires { page + count ≤ 2 ^ 40 }
     ensures { run result (is left) (is marks) ≡ meet_all limits (pages_from page count) (run true (was left) (was marks)) }
 {
-    let mut fine = true;
-    let mut k: u64 = 0;
-    while k < count {
-        fine = meet_next(marks, left, limits, page + k, fine);
-        k += 1;
+    for k in 0..count {
+        if !meet_page(marks, left, limits, page + k) {
+            return false;
+        }
     }
-    fine
+    true
 }
 
-// In the window that begins with page `lo`, if all was fine in those before.
+// In the window that begins with page `lo`.
 fn window_apart(
     arena: &[u64],
     first: u64,
@@ -59,21 +48,19 @@ fn window_apart(
     starts: &[u64],
     lasts: &[u64],
     count: usize,
-    fine: bool,
 ) -> bool
     requires { (low ≤ high) × (top.page + top.pages ≤ 2 ^ 40) × (top.word + top.entries ≤ 2 ^ 50) × (count ≤ length starts.now) × (count ≤ length lasts.now) }
-    ensures { result ≡ (fine && apart_in low high (touches starts.now lasts.now count) (reached_in first arena.now top) lo) }
+    ensures { result ≡ apart_in low high (touches starts.now lasts.now count) (reached_in first arena.now top) lo }
 {
-    if fine {
-        let limits = Limits {
-            lowest: low,
-            past: high,
-            lo,
-        };
-        let mut marks = [false; WINDOW];
-        let mut left = high - low;
-        mark_free(&mut marks, lo, starts, lasts, count);
-        let met = meet_pages(&mut marks, &mut left, limits, top.page, top.pages);
+    let limits = Limits {
+        lowest: low,
+        past: high,
+        lo,
+    };
+    let mut marks = [false; WINDOW];
+    let mut left = high - low;
+    mark_free(&mut marks, lo, starts, lasts, count);
+    if meet_pages(&mut marks, &mut left, limits, top.page, top.pages) {
         return mark_in(
             arena,
             first,
@@ -83,7 +70,6 @@ fn window_apart(
             top.height,
             top.word,
             top.entries,
-            met,
         );
     }
     false
@@ -104,12 +90,11 @@ pub fn tables_apart(
     ensures { result ≡ apart low high (touches starts.now lasts.now count) (reached_in first arena.now top) }
 {
     let windows = (high - low) / WINDOW as u64 + 1;
-    let mut fine = true;
-    let mut k: u64 = 0;
-    while k < windows {
+    for k in 0..windows {
         let lo = low + k * WINDOW as u64;
-        fine = window_apart(arena, first, top, low, high, lo, starts, lasts, count, fine);
-        k += 1;
+        if !window_apart(arena, first, top, low, high, lo, starts, lasts, count) {
+            return false;
+        }
     }
-    fine
+    true
 }

@@ -8,11 +8,9 @@ ghost use Rattle.mapper_laws.specs.Tree.{page_of};
 ghost use Rattle.mapper_laws.specs.Mapping.{permission_of_lem, meets, fits, low_bits, leaf_word_lem, table_word_lem};
 ghost use Rattle.mapper_words.specs.Heights.{capped};
 
-use mapper_laws::Mapping;
+use mapper_laws::{Mapping, PAGE};
 use mapper_numbers::below_sum;
 use std::num::wrapping_add_u64;
-
-const PAGE: u64 = 4096;
 
 // What a word has below its address: AF, SH inner, MemAttr write-back, and the type of a page or of a block; AF and the type of a table.
 const PAGE_BITS: u64 = 0x73f;
@@ -51,13 +49,7 @@ pub fn is_table(d: u64) -> bool
 pub fn is_block(height: u64, d: u64) -> bool
     ensures { result ≡ is_block_lem height d }
 {
-    if d % 4 == 1 {
-        if 1 <= height {
-            return height <= 2;
-        }
-        return false;
-    }
-    false
+    d % 4 == 1 && (1..=2).contains(&height)
 }
 
 // The page of the table that the word leads to, counted from address 0.
@@ -99,21 +91,11 @@ fn low_bits(height: u64) -> u64
     BLOCK_BITS
 }
 
-// a - b, or 0 where b is more.
-fn less_by(a: u64, b: u64) -> u64
-    ensures { result ≡ a - b }
-{
-    if a < b {
-        return 0;
-    }
-    a - b
-}
-
 // The page or block of the inputs from e on.
 pub fn leaf_word(q: Mapping, height: u64, e: u64) -> u64
     ensures { result ≡ leaf_word_lem q height e % 2 ^ 64 }
 {
-    let output = wrapping_add_u64(q.out, less_by(e, q.from));
+    let output = wrapping_add_u64(q.out, e.saturating_sub(q.from));
     let below = wrapping_add_u64(q.permission << 6, low_bits(height));
     wrapping_add_u64(output, below)
 }

@@ -15,9 +15,9 @@ pub returns-then-blocked : goal.returns-then-blocked
 returns-then-blocked c =
     let s = c.args in way-blocked s.q s.first s.top s.image.now s.arena.now _ c.block_in-blocked.ensures c.if-blocked.true
 
-pub copy_bytes-requires : goal.copy_bytes-requires
-copy_bytes-requires c =
-    c.requires.0 ∙ sym fresh-copy
+pub copy_from_slice-requires : goal.copy_from_slice-requires
+copy_from_slice-requires c =
+    fresh-copy ∙ sym c.requires.0
 
 pub ask_in-enough-requires : goal.ask_in-enough-requires
 ask_in-enough-requires c =
@@ -30,10 +30,10 @@ store_in-requires c =
 pub returns-then-enough : goal.returns-then-enough
 returns-then-enough c =
     let s = c.args in
-    all-stored s.q s.first s.top s.image.now s.arena.now _ c.block_in-blocked.ensures c.if-blocked.false _ _ c.copy_bytes.ensures _ c.ask_in-enough.ensures c.if-enough.true _ _ c.store_in.ensures
+    all-stored s.q s.first s.top s.image.now s.arena.now _ c.block_in-blocked.ensures c.if-blocked.false _ _ c.copy_from_slice.ensures.after _ c.ask_in-enough.ensures c.if-enough.true _ _ c.store_in.ensures
 
 pub returns : goal.returns
 returns c =
     let s = c.args in
     ap (λ (i : ℤ). left i s.image.now s.arena.now) (to_z-of_z {w = w64} (record { sfits = c.take_page.type_inv }))
-    ∙ no-page s.q s.first s.top s.image.now s.arena.now _ c.block_in-blocked.ensures c.if-blocked.false _ _ c.copy_bytes.ensures _ c.ask_in-enough.ensures c.if-enough.false c.take_page.result _ c.take_page.ensures
+    ∙ no-page s.q s.first s.top s.image.now s.arena.now _ c.block_in-blocked.ensures c.if-blocked.false _ _ c.copy_from_slice.ensures.after _ c.ask_in-enough.ensures c.if-enough.false c.take_page.result _ c.take_page.ensures

@@ -1,4 +1,3 @@
-use Prim.Native.Nat.{◌-◌}
 use native.Mathlib.Omega.{arith}
 use Rattle.mapper_arena.proofs.Clearing.{page-small, none-cleared, one_more, all-cleared, cleared-length}
 use Rattle.mapper_arena.proofs.clear_table.Goals as goal
@@ -9,7 +8,7 @@ overflow_mul-at c =
 
 pub loop-j-init : goal.loop-j-init
 loop-j-init c =
-    (omega arith, none-cleared _ _ _)
+    none-cleared _ _ _
 
 pub overflow_add-at : goal.overflow_add-at
 overflow_add-at c =
@@ -17,12 +16,12 @@ overflow_add-at c =
 
 pub loop-j-preserved : goal.loop-j-preserved
 loop-j-preserved c =
-    (omega arith, one_more _ _ _ _ _ c.loop-j.invariant.1 c.put_word.ensures)
+    one_more _ _ _ _ _ c.loop-j.invariant c.put_word.ensures
 
 pub shape_of-arena : goal.shape_of-arena
 shape_of-arena c =
-    rw c.loop-j.invariant.1 (cleared-length _ _ _ _)
+    rw c.loop-j.invariant (cleared-length _ _ _ _)
 
 pub returns : goal.returns
 returns c =
-    all-cleared 512 _ _ {n = c.loop-j.j} c.loop-j.invariant.1 (omega arith) c.table_page-at.ensures
+    all-cleared 512 _ _ {n = c.loop-j.j} c.loop-j.invariant (let e = c.loop-j.auto.j-end in let h = c.loop-j-test.false in omega arith) c.table_page-at.ensures

@@ -1,4 +1,4 @@
-use Rattle.std.proofs.Common.{◌-◌, ◌||◌, ◌≡◌, ◌+◌, ◌*◌, ◌≤◌}
+use Rattle.std.proofs.Common.{false, ◌≡◌, ◌+◌, ◌*◌}
 use Rattle.mapper_blocks.specs.Blocks.{blocked_in}
 use Rattle.mapper_blocks.proofs.+blocks.Given as goal
 
@@ -9,8 +9,4 @@ abbrev pub decreases-block_in : goal.decreases-block_in
 decreases-block_in l = 2 * l.height + 1
 
 abbrev pub invariant-block_in-loop-j : goal.invariant-block_in-loop-j
-invariant-block_in-loop-j l =
-    (l.j ≤ l.count) × (l.any ≡ (l.found || blocked_in l.q l.first l.arena l.height l.e l.at l.j))
-
-abbrev pub decreases-block_in-loop-j : goal.decreases-block_in-loop-j
-decreases-block_in-loop-j l = l.count - l.j
+invariant-block_in-loop-j l = false ≡ blocked_in l.q l.first l.arena l.height l.e l.at l.j

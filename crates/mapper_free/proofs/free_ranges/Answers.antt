@@ -1,14 +1,13 @@
 use mathlib.Core.Path.{refl, sym, ap, ◌∙◌}
 use Rattle.account_state.specs.declared.Account.{Account}
 use Rattle.pool_state.specs.Shown.{pool}
-use Rattle.pool_state.proofs.States.{fresh-state}
 use Rattle.linked_lists.proofs.Laws.{true≢false}
 use Rattle.mapper_free.proofs.Ranges.{read-ordered}
 use Rattle.mapper_free.proofs.free_ranges.Goals as goal
 
 pub read_current-readable-requires : goal.read_current-readable-requires
 read_current-readable-requires c =
-    fresh-state pool
+    c.new-state.ensures
 
 pub list_in-requires : goal.list_in-requires
 list_in-requires c =

@@ -1,11 +1,6 @@
-use Prim.Native.Nat.{◌-◌, ◌≤◌}
 use Rattle.mapper_free.specs.Free.{touches, Adds}
 use Rattle.mapper_free.proofs.mark_free.Given as goal
 
 abbrev pub invariant-loop-i : goal.invariant-loop-i
 invariant-loop-i l =
-    (l.i ≤ l.count) × Adds l.lo (touches l.starts l.lasts l.i) l.initial.marks l.marks
-
-abbrev pub decreases-loop-i : goal.decreases-loop-i
-decreases-loop-i l =
-    l.count - l.i
+    Adds l.lo (touches l.starts l.lasts l.i) l.initial.marks l.marks

@@ -16,19 +16,19 @@ ranges_lie-requires c =
     let s = c.args in
     let order = in_order s.base (length s.arena.now) c.if-base-gt-TOP.false in
     let is = c.top_byte-high.ensures in
-    let many = count_fits s.image.now _ _ _ _ fresh-length fresh-length _ c.free_ranges-listed.ensures _ c.in-Count.is in
+    let many = count_fits s.image.now _ _ _ _ fresh-length fresh-length _ c.free_ranges-listed.ensures _ c.in-Some.is in
     let starts = c.free_ranges-listed.auto.starts ∙ fresh-length in
     let lasts = c.free_ranges-listed.auto.lasts ∙ fresh-length in
     ((let a = order.0 in rw is a), (let b = order.1 in rw is b), c.requires.0, c.requires.1, omega arith, omega arith)
 
 -- src/lib.rt:94:1
-pub returns-in-Count : goal.returns-in-Count
-returns-in-Count c =
+pub returns-in-Some : goal.returns-in-Some
+returns-in-Some c =
     let s = c.args in
-    lies-listed s.image.now _ _ _ _ fresh-length fresh-length _ c.free_ranges-listed.ensures s.base _ _ s.top s.arena.now c.if-base-gt-TOP.false c.top_byte-high.ensures c.in-Count.is _ c.ranges_lie.ensures
+    lies-listed s.image.now _ _ _ _ fresh-length fresh-length _ c.free_ranges-listed.ensures s.base _ _ s.top s.arena.now c.if-base-gt-TOP.false c.top_byte-high.ensures c.in-Some.is _ c.ranges_lie.ensures
 
 -- src/lib.rt:94:1
-pub returns-in-Short : goal.returns-in-Short
-returns-in-Short c =
+pub returns-in-None : goal.returns-in-None
+returns-in-None c =
     let s = c.args in
-    lies-unlisted s.image.now _ _ _ _ fresh-length fresh-length _ c.free_ranges-listed.ensures s.base _ 0 s.top s.arena.now c.if-base-gt-TOP.false c.top_byte-high.ensures c.in-Short.is
+    lies-unlisted s.image.now _ _ _ _ fresh-length fresh-length _ c.free_ranges-listed.ensures s.base _ 0 s.top s.arena.now c.if-base-gt-TOP.false c.top_byte-high.ensures c.in-None.is

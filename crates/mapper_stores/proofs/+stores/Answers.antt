@@ -2,7 +2,7 @@ use mathlib.Core.Path.{sym, ◌∙◌}
 use native.Mathlib.Omega.{arith}
 use Rattle.mapper_blocks.proofs.Strides.{stride, entry-room, table-room, page-words}
 use Rattle.mapper_stores.specs.Stores.{held}
-use Rattle.mapper_stores.proofs.Storing.{at-page, at-whole, at_none, at_table, at-fresh, none_yet, one_more}
+use Rattle.mapper_stores.proofs.Storing.{at-page, at-whole, at_none, at_table, at-fresh, none_yet, one_more, all-stored}
 use Rattle.mapper_stores.proofs.+stores.Goals as goal
 
 pub store_at-returns-then-height-eq0 : goal.store_at-returns-then-height-eq0
@@ -45,7 +45,7 @@ store_at-returns-else-word_meets t c =
 
 pub store_in-loop-j-init : goal.store_in-loop-j-init
 store_in-loop-j-init t c =
-    let s = c.args in (omega arith, none_yet s.q s.first s.height s.e s.at (held s.arena.now s.image.now))
+    let s = c.args in none_yet s.q s.first s.height s.e s.at (held s.arena.now s.image.now)
 
 pub store_in-overflow_mul-j : goal.store_in-overflow_mul-j
 store_in-overflow_mul-j t c =
@@ -67,8 +67,12 @@ store_in-store_at-requires t c =
 
 pub store_in-loop-j-preserved : goal.store_in-loop-j-preserved
 store_in-loop-j-preserved t c =
-    let s = c.args in (
-      omega arith,
-      one_more s.q s.first s.height s.e s.at (held s.arena.now s.image.now) c.loop-j.j _ (held c.loop-j.arena c.loop-j.image) _
-          (stride _ _ c.requires.0 c.span_of-bytes.ensures) c.loop-j.invariant.1 c.store_at.ensures,
-    )
+    let s = c.args in
+    one_more s.q s.first s.height s.e s.at (held s.arena.now s.image.now) c.loop-j.j _ (held c.loop-j.arena c.loop-j.image) _
+    (stride _ _ c.requires.0 c.span_of-bytes.ensures) c.loop-j.invariant c.store_at.ensures
+
+pub store_in-returns : goal.store_in-returns
+store_in-returns t c =
+    let s = c.args in
+    all-stored s.q s.first s.height s.e s.at (held s.arena.now s.image.now) c.loop-j.j s.count _ c.loop-j.invariant
+    (let most = c.loop-j.auto.j-end in let least = c.loop-j-test.false in omega arith)

@@ -1,4 +1,4 @@
-use Rattle.std.proofs.Common.{◌-◌, ◌≡◌, ◌+◌, ◌*◌, ◌≤◌}
+use Rattle.std.proofs.Common.{◌≡◌, ◌+◌, ◌*◌}
 use Rattle.mapper_stores.specs.Stores.{held, store_in_lem}
 use Rattle.mapper_stores.proofs.+stores.Given as goal
 
@@ -10,8 +10,4 @@ decreases-store_in l = 2 * l.height + 1
 
 abbrev pub invariant-store_in-loop-j : goal.invariant-store_in-loop-j
 invariant-store_in-loop-j l =
-    (l.j ≤ l.count)
-    × (held l.arena l.image ≡ store_in_lem l.q l.first l.height l.e l.at l.j (held l.initial.arena l.initial.image))
-
-abbrev pub decreases-store_in-loop-j : goal.decreases-store_in-loop-j
-decreases-store_in-loop-j l = l.count - l.j
+    held l.arena l.image ≡ store_in_lem l.q l.first l.height l.e l.at l.j (held l.initial.arena l.initial.image)

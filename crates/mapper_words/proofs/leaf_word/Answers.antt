@@ -7,7 +7,7 @@ pub returns : goal.returns
 returns c =
     let q = c.args.q in
     leaf-sum (2 ^ 64) q.out (c.args.e - q.from) q.permission (low_bits c.args.height)
-    c.less_by.ensures
+    c.saturating_sub.ensures
     c.low_bits.ensures
     c.wrapping_add_u64-output.ensures.value
     c.wrapping_add_u64-below.ensures.value
