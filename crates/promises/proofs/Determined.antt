@@ -1,13 +1,12 @@
 -- Each contract names its one result. Assumes nothing.
+use Rattle.std.specs.Prelude.{Ok, Err}
 use Prim.Native.Nat.{ℕ}
 use mathlib.Core.List.{List}
 use mathlib.Core.Path.{◌≡◌, refl, sym, ap, ◌∙◌}
 use native.Mathlib.Omega.{arith}
 use Rattle.image.specs.Reading.{Handed}
 use Rattle.image.specs.Writing as writing
-use Rattle.image.specs.Writing.{number_of}
-use Rattle.image.specs.declared.ImageAnswer.{ImageAnswer}
-use Rattle.image.specs.declared.ImageAnswer.TheVariants.{Done, InvalidEntry}
+use Rattle.image.specs.Writing.{number_of, ImageAnswer}
 use Rattle.holder_images.specs.Reading as holding
 use Rattle.image_calls.specs.Lists.{Returned}
 use Rattle.journal_calls.specs.Calls.{Left}
@@ -20,10 +19,10 @@ module _ {X : Type 0} (allows : X → Type 0) where
 
 -- the number of an answer tells which it is
 number-tells : (a b : ImageAnswer) → number_of a ≡ number_of b → a ≡ b
-number-tells Done Done e = refl
-number-tells Done InvalidEntry e = absurd (let k : ⊥ = omega arith in k)
-number-tells InvalidEntry Done e = absurd (let k : ⊥ = omega arith in k)
-number-tells InvalidEntry InvalidEntry e = refl
+number-tells (Ok _) (Ok _) e = refl
+number-tells (Ok _) (Err _) e = absurd (let k : ⊥ = omega arith in k)
+number-tells (Err _) (Ok _) e = absurd (let k : ⊥ = omega arith in k)
+number-tells (Err _) (Err _) e = refl
 
 pub each-determined : EachDetermined
 each-determined = record {

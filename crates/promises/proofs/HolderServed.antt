@@ -7,8 +7,9 @@ use mathlib.Core.Path.{◌≡◌, refl, sym, ap, ◌∙◌}
 use native.Mathlib.Omega.{arith}
 use lib.Dec.{eqb}
 use borrow.Author.Tests.{eqb-true}
+use Rattle.std.specs.Prelude.{Err}
 use Rattle.calls.specs.Calls.{signed_of}
-use Rattle.calls.specs.declared.Answer.TheVariants.{InvalidEntry}
+use Rattle.calls.specs.declared.MemoryError.TheVariants.{InvalidEntry}
 use Rattle.image_parts.specs.Layout.{Layout}
 use Rattle.c_over.specs.CCalls.{returned}
 use Rattle.c_over.specs.Images.{book_in}
@@ -33,12 +34,12 @@ module _ (f : Layout) (l : List ℕ) where
   pub read-served : ((reading_of f l).number ≡ 0) ↔ (serves f l ≡ true)
   read-served = (λ e. sym same_test ∙ (read-exactly f l).0 e, λ e. (read-exactly f l).1 (same_test ∙ e))
 
-  not-served : (c : Call) → serves f l ≡ false → call_over_lem f c l ≡ returned (signed_of InvalidEntry) l
+  not-served : (c : Call) → serves f l ≡ false → call_over_lem f c l ≡ returned (signed_of (Err InvalidEntry)) l
   unfolding call_over_lem over
   not-served c off = rw off
 
   -- bytes that are refused by value
-  pub refused_over : (c : Call) → (reading_of f l).number ≡ 2 → call_over_lem f c l ≡ returned (signed_of InvalidEntry) l
+  pub refused_over : (c : Call) → (reading_of f l).number ≡ 2 → call_over_lem f c l ≡ returned (signed_of (Err InvalidEntry)) l
   refused_over c e = not-served c (go (serves f l) refl)
     where
       go : (b : Bool) → serves f l ≡ b → b ≡ false

@@ -3,13 +3,13 @@ use Prim.Native.Nat.{ℕ, ◌+◌}
 use mathlib.Core.Bool.{Bool, not}
 use mathlib.Core.Path.{◌≡◌, refl}
 use lib.Dec.{eqb}
+use Rattle.std.specs.Prelude.{Ok, Err}
 use Rattle.rules.specs.Rules as rules
 use Rattle.rules.specs.Rules.{any, meets, Free, Allocate, Reserve}
 use Rattle.rules_laws.proofs.Lists.{if}
 use Rattle.pool_state.specs.declared.MemoryAllocator.{MemoryAllocator}
 use Rattle.calls.specs.Calls as calls
-use Rattle.calls.specs.declared.Answer as below
-use Rattle.calls.specs.declared.Answer.TheVariants.{Accepted, NoEntry, InvalidEntry, NoMemory, InvalidRequest}
+use Rattle.calls.specs.declared.MemoryError.TheVariants.{NoEntry, InvalidEntry, NoMemory, InvalidRequest}
 use Rattle.core_serve.specs.Made as allocator
 use Rattle.memory_allocator.specs.States.{states}
 use Rattle.holder_rules.specs.Register.{known, held, full, yours}
@@ -27,17 +27,17 @@ unfolding refuse
 line c q j k w a b = if q (λ (v : Answer MemoryAllocator). Told c v) (λ _. a) (λ _. b)
 
 -- the allocator's refusal, or the lines below it
-followed : (c : Call) (a : below.Answer) (k : Holding MemoryAllocator) (w : Answer MemoryAllocator) → Told c w → Told c (unless_refused (calls.number_of a) k w)
+followed : (c : Call) (a : calls.Answer) (k : Holding MemoryAllocator) (w : Answer MemoryAllocator) → Told c w → Told c (unless_refused (calls.number_of a) k w)
 unfolding unless_refused refuse
-followed c (Accepted x) k w h = h
-followed c NoEntry k w h = refl
-followed c InvalidEntry k w h = refl
-followed c NoMemory k w h = refl
-followed c InvalidRequest k w h = refl
+followed c (Ok x) k w h = h
+followed c (Err NoEntry) k w h = refl
+followed c (Err InvalidEntry) k w h = refl
+followed c (Err NoMemory) k w h = refl
+followed c (Err InvalidRequest) k w h = refl
 
 module _ (n : ℕ) (k : Holding MemoryAllocator) where
   -- what the allocator answers
-  abbrev answer : rules.Call → below.Answer
+  abbrev answer : rules.Call → calls.Answer
   answer c = (allocator.made n k.memory c).answer
 
   other-told : (c : Call) (d : rules.Call) (q : Bool) (k' : Holding MemoryAllocator) → Told c (unless_other ((states n).answer d k.memory) q k k')

@@ -5,6 +5,7 @@ use mathlib.Core.List.{List, [], ◌∷◌}
 use mathlib.Core.Path.{◌≡◌, refl, sym, ap, subst, ◌∙◌}
 use lib.IntN.{ℤ}
 use lib.ListN.{length}
+use Rattle.std.specs.Prelude.{Some, None}
 use Rattle.linked_lists.specs.Links.{none}
 use Rattle.linked_lists.proofs.Laws.{true≢false}
 use Rattle.rules.specs.Rules.{Book, Answer, Call, Voucher, step, sum, total}
@@ -31,11 +32,9 @@ use Rattle.account_calls.specs.Made.{judged, made}
 use Rattle.account_calls.specs.Engine.{accounts, lowest_in}
 use Rattle.account_calls.proofs.Steps.{sound-held, made_held, made-voucher}
 use Rattle.account_calls.proofs.Demand.{OfBook}
-use Rattle.batch.specs.InWords.{rule_of}
+use Rattle.batch.specs.InWords.{rule_of, Asked}
 use Rattle.batch.specs.Lists.{list_served, answered}
 use Rattle.batch.specs.Histories.{Batch, calls_in, vouchers_in}
-use Rattle.batch.specs.declared.Asked.{Asked}
-use Rattle.batch.specs.declared.Asked.TheVariants.{Is, Unknown}
 use Rattle.batch.proofs.Histories.{made-sound, unknown-left, list_left, list-kept}
 use Rattle.door_fields.specs.Fields.{asked_here}
 use Rattle.door_fields.proofs.Sized.{sized-passes}
@@ -126,8 +125,8 @@ module _ (n : ℕ) (small : n ≤ none) where
   sound cs = own-demand.always-sound cs
 
   asks : Asked → List Call
-  asks (Is q) = call_of q ∷ []
-  asks Unknown = []
+  asks (Some q) = call_of q ∷ []
+  asks None = []
 
   calls : OwnAct → List Call
   calls OwnNew = []
@@ -137,8 +136,8 @@ module _ (n : ℕ) (small : n ≤ none) where
   asked-onward : (q : Asked) (s : Account) → SoundAccount n s
       → ((judged_here n (rule_of n q) s).state ≡ after (own n) s (asks q)) × (voucher_if q (signed_of (judged_here n (rule_of n q) s).answer) ≡ vouchers (own n) s (asks q))
   unfolding asks after vouchers
-  asked-onward (Is q) s h = (refl, refl)
-  asked-onward Unknown s h = (ap (λ (r : Entered). r.state) (same s h (rule_of n Unknown)) ∙ unknown-left n small s h, refl)
+  asked-onward (Some q) s h = (refl, refl)
+  asked-onward None s h = (ap (λ (r : Entered). r.state) (same s h (rule_of n None)) ∙ unknown-left n small s h, refl)
 
   anew : (a : OwnAct) (cs : List Call) → own_renews a ≡ true → (own_next n a (at cs) ≡ (own n).new) × (own_gives n a (at cs) ≡ [])
   anew OwnNew cs e = (refl, refl)

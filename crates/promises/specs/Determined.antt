@@ -4,8 +4,7 @@ use Rattle.std.specs.Prelude.{ℕ, Bool, List, ◌≡◌, ℤ}
 use Rattle.rules.specs.Rules as rules
 use Rattle.rules.specs.Rules.{Book}
 use Rattle.pool_state.specs.declared.MemoryAllocator.{MemoryAllocator}
-use Rattle.calls.specs.declared.Answer.{Answer}
-use Rattle.calls.specs.declared.Counted.{Counted}
+use Rattle.calls.specs.Calls.{Answer, Counted}
 use Rattle.calls.specs.declared.Outcome.{Outcome}
 use Rattle.core_accounts.specs.Accounts as accounts
 use Rattle.holder_rules.specs.declared.HolderAllocator.{HolderAllocator}
@@ -19,8 +18,7 @@ use Rattle.account_state.specs.declared.Entered.{Entered}
 use Rattle.batch.specs.Lists.{Serves, Served}
 use Rattle.image_parts.specs.Layout.{Layout}
 use Rattle.image.specs.Reading.{Handed, handed}
-use Rattle.image.specs.Writing.{Written, written}
-use Rattle.image.specs.declared.ImageAnswer.{ImageAnswer}
+use Rattle.image.specs.Writing.{Written, written, ImageAnswer}
 use Rattle.image.specs.declared.Reading.{Reading}
 use Rattle.image_calls.specs.Lists.{Returned, returned, BatchOver}
 use Rattle.door_own.specs.Own.{Judged}

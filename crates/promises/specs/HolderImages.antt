@@ -1,9 +1,9 @@
 -- The image of an allocator with its register, by value and as the C calls have it, is one, and the C calls are the calls by value; `crates/promises/proofs/HolderImages.antt` shows each
 -- sentence, of every layout whose fields can hold its own numbers and that has a low figure. Assumes nothing.
-use Rattle.std.specs.Prelude.{ℕ, true, List, map, ◌↔◌, ◌≡◌, pos, length}
+use Rattle.std.specs.Prelude.{ℕ, true, List, map, ◌↔◌, ◌≡◌, pos, length, Err}
 use Rattle.rules_lowest.specs.Lowest.{never, noted, sums, least}
 use Rattle.calls.specs.Calls.{signed_of}
-use Rattle.calls.specs.declared.Answer.TheVariants.{InvalidEntry}
+use Rattle.calls.specs.declared.MemoryError.TheVariants.{InvalidEntry}
 use Rattle.bytes_be.specs.Numbers.{Bytes}
 use Rattle.image_parts.specs.Layout.{Layout}
 use Rattle.c_over.specs.CCalls.{Returned, returned}
@@ -32,7 +32,7 @@ pub record HolderImagePromises (f : Layout) : Type 0 where
   -- bytes are read exactly if a C call serves them
   pub read-served : (l : List ℕ) → ((reading_of f l).number ≡ 0) ↔ (serves f l ≡ true)
   -- so bytes that no sound state writes are -2, and stay as they were
-  pub no-image : (c : Call) (l : List ℕ) → Bytes l → (Image f l → ⊥) → call_over_lem f c l ≡ returned (signed_of InvalidEntry) l
+  pub no-image : (c : Call) (l : List ℕ) → Bytes l → (Image f l → ⊥) → call_over_lem f c l ≡ returned (signed_of (Err InvalidEntry)) l
   -- on the image of a sound state a C call returns what the call by value answers, and leaves the image of the state that this leaves
   pub by_value : (c : Call) (s : HolderAllocator) (low : ℕ) → SoundWith f.records s low → call_over_lem f c (image_of f s low) ≡ as_returned f low (made f.records s c)
   -- which is sound again,

@@ -1,5 +1,5 @@
 -- What is promised of lists of calls, by value and over an image; `crates/promises/proofs/ListPromises.antt` shows each. Assumes nothing.
-use Rattle.std.specs.Prelude.{ℕ, ◌≤◌, true, List, [], ◌∷◌, ◌≡◌, length}
+use Rattle.std.specs.Prelude.{ℕ, ◌≤◌, true, List, [], ◌∷◌, ◌≡◌, length, Some}
 use Rattle.rules_engine.specs.Engine.{Engine}
 use Rattle.rules_engine.specs.Demand.{DemandOf}
 use Rattle.rules_lowest.specs.Carried.{LowestOf}
@@ -13,7 +13,6 @@ use Rattle.pool_listing.specs.Listing.{written}
 use Rattle.batch.specs.InWords.{asked}
 use Rattle.batch.specs.Lists.{fitted}
 use Rattle.batch.specs.Histories.{Batch, Door, after_lists, vouchers_of_lists, account_door, CutAt}
-use Rattle.batch.specs.declared.Asked.TheVariants.{Is}
 use Rattle.image_parts.specs.Layout.{Layout, image_size_lem}
 use Rattle.image_writing.specs.Writing.{image_of}
 use Rattle.c_over.specs.Images.{images, lowest_stored}
@@ -37,9 +36,9 @@ ListsLowest e d low = LowestOf e low (List Batch) (after_lists e d e.new) (vouch
 pub record ListPromises (n : ℕ) : Type 0 where
   pub cuts : (s : Account) → SoundAccount n s → Cuts (accounts n) (account_door n) s
   -- a list of one call is that call
-  pub one_left : (s : Account) → SoundAccount n s → (b : Batch) → fitted b.words (length b.places) ≡ true → (q : Request) → asked b.words ≡ Is q ∷ []
+  pub one_left : (s : Account) → SoundAccount n s → (b : Batch) → fitted b.words (length b.places) ≡ true → (q : Request) → asked b.words ≡ Some q ∷ []
       → (account_door n).next b s ≡ (made n s (call_of q)).state
-  pub one_answer : (s : Account) → SoundAccount n s → (b : Batch) → fitted b.words (length b.places) ≡ true → (q : Request) → asked b.words ≡ Is q ∷ []
+  pub one_answer : (s : Account) → SoundAccount n s → (b : Batch) → fitted b.words (length b.places) ≡ true → (q : Request) → asked b.words ≡ Some q ∷ []
       → (account_door n).answers b s ≡ written (signed_of (made n s (call_of q)).answer ∷ []) b.places
   pub lists-close : ListsClose (accounts n) (account_door n)
   pub lists-lowest : ListsLowest (accounts n) (account_door n) lowest_in

@@ -1,7 +1,7 @@
 -- The calls on a state of one's own, eleven lent fields, as an engine and a client of it: what they answer and leave, by the definitions that their contracts
 -- cite. An export changes no field, and an import ends the history: what an image holds has one of its own. `crates/promises/proofs/Own.antt` shows each sentence
 -- of the record. n is the number of records. Assumes nothing.
-use Rattle.std.specs.Prelude.{ℕ, Bool, true, false, List, [], ◌∷◌, ◌≡◌, ℤ, length}
+use Rattle.std.specs.Prelude.{ℕ, Bool, true, false, List, [], ◌∷◌, ◌≡◌, ℤ, length, Some, None}
 use Rattle.rules.specs.Rules.{Book, Answer, Voucher, step}
 use Rattle.rules_engine.specs.Engine.{Engine}
 use Rattle.rules_engine.specs.Demand.{Demand}
@@ -12,10 +12,8 @@ use Rattle.account_state.specs.declared.Account.{Account}
 use Rattle.account_calls.specs.Made.{judged}
 use Rattle.account_calls.specs.Engine.{lowest_in}
 use Rattle.calls.specs.Calls.{call_of, signed_of, voucher_from}
-use Rattle.batch.specs.InWords.{rule_of}
+use Rattle.batch.specs.InWords.{rule_of, Asked}
 use Rattle.batch.specs.Histories.{Batch, vouchers_in}
-use Rattle.batch.specs.declared.Asked.{Asked}
-use Rattle.batch.specs.declared.Asked.TheVariants.{Is, Unknown}
 use Rattle.door_fields.specs.Fields.{asked_here}
 use Rattle.door_own.specs.Own.{judged_here}
 use Rattle.door_lists.specs.Lists.{listed_here_lem, answered_here}
@@ -46,8 +44,8 @@ own_renews (OwnList b) = false
 
 -- the voucher of what was asked for and answered; an unknown kind leaves none
 abbrev pub voucher_if : Asked → ℤ → List Voucher
-voucher_if (Is q) i = voucher_from (call_of q) i ∷ []
-voucher_if Unknown i = []
+voucher_if (Some q) i = voucher_from (call_of q) i ∷ []
+voucher_if None i = []
 
 abbrev pub own_gives : ℕ → OwnAct → Account → List Voucher
 own_gives n OwnNew s = []
