@@ -11,7 +11,7 @@ FILLING = ("memset",)
 # No call of the allocator copies a state or an answer, nor does one with holders: fields are lent on as they are, the register's numbers too, and so are the
 # bytes of an image. A map asks for its pages over a copy of the image.
 COPIES = {"mapper.o": 1}
-# The arrays of an empty state are filled, those of ten or eleven locals or of the caller; on bare Arm the heads of the lists too, which elsewhere are a few stores.
+# The arrays of an empty state are filled, those of a local state or of the caller; on bare Arm the heads of the lists too, which elsewhere are a few stores.
 FILLS = {
     "c_calls.o": (14, 18),
     "c_upgrade.o": (6, 7),

@@ -8,7 +8,7 @@ from pages import SPAN
 SENTENCES, EXEMPT, PARTS = ("sentence", "calls"), ("call", "what its contract leaves open, and why"), ("call", "promise", "ruled out")
 UMBRELLA = "memory_allocator"  # all that a client takes
 STATED = "crates/promises/specs/Determined.antt"
-FUNCTION = r"\n *(?:pub )?fn {}(?:<[^()]*>)?\((.*?)\)([^(){{}}]*?)\n *((?:requires|ensures) .*?)\n *\{{\n"
+FUNCTION = r"\n *(?:pub )?fn {}(?:<[^\n]*?>)?\((.*?)\)([^(){{}}]*?)\n *((?:requires|ensures) .*?)\n *\{{\n"
 EQUATION = re.compile(r"ensures (?:\w+ )?\{ (?:(result)|(\w+)\.new|is (\w+)) ≡ ")
 WHOLE = re.compile(r"ensures (?:\w+ )?\{ turns_eleven \(λ a a'\. a' ≡ ")  # of the eleven fields
 HEAD = re.compile(r"(?:\{|λ [as] [as]'\.) (\w\w+) ")
