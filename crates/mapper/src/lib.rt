@@ -26,7 +26,16 @@ fn map_lying(image: &mut [u8], arena: &mut [u64], first: u64, top: Top, q: Mappi
     requires { (length image.old ≡ image_size_lem current) × (top.height ≤ 3) × (top.entries * span top.height ≤ 2 ^ 48) × (top.word + top.entries ≤ 2 ^ 50) }
     ensures { left result (is image) (is arena) ≡ refuse (in_the_way q first top (was arena)) (negsuc 3) (was image) (was arena) (finished q first top (was image) (was arena)) }
 {
-    let blocked = block_in(&arena[..], first, q, top.height, 0, top.word, top.entries);
+    let blocked = block_in(
+        &arena[..],
+        first,
+        q,
+        top.height,
+        0,
+        top.word,
+        top.entries,
+        false,
+    );
     if blocked {
         return INVALID_REQUEST;
     }
@@ -42,6 +51,7 @@ fn map_lying(image: &mut [u8], arena: &mut [u64], first: u64, top: Top, q: Mappi
         top.word,
         top.entries,
         false,
+        true,
     );
     if enough {
         store_in(image, arena, first, q, top.height, 0, top.word, top.entries);

@@ -93,6 +93,7 @@ fn mark_at(
                 height - 1,
                 at,
                 TABLE_WORDS,
+                true,
             );
         }
         return false;
@@ -111,10 +112,14 @@ pub fn mark_in(
     height: u64,
     at: u64,
     count: u64,
+    fine: bool,
 ) -> bool
     requires { at + count ≤ 2 ^ 50 }
-    ensures { run result (is left) (is marks) ≡ meet_all limits (tables_in first arena.now height at count) (run true (was left) (was marks)) }
+    ensures { run result (is left) (is marks) ≡ meet_all limits (tables_in first arena.now height at count) (run fine (was left) (was marks)) }
 {
+    if !fine {
+        return false;
+    }
     for j in 0..count {
         let d = word_at(arena, first, at + j);
         if !mark_at(arena, first, marks, left, limits, height, d) {

@@ -62,7 +62,7 @@ address-fits (negsuc k) j e f t = absurd (true≢false (signed_test (negsuc k) j
 
 -- ---- one page more
 
-asked-none : (l : List ℕ) → supply false l ≡ asked (supply false l)
+pub asked-none : (l : List ℕ) → supply false l ≡ asked (supply false l)
 unfolding asked
 asked-none l = refl
 
@@ -82,7 +82,7 @@ unfolding taken
 taken_more m zero s = ap (λ (k : ℕ). taken k s) (let e : m ≡ m + 0 = omega arith in e)
 taken_more m (suc n) s = ap asked (taken_more m n s) ∙ ap (λ (k : ℕ). taken k s) (let e : suc (m + n) ≡ m + suc n = omega arith in e)
 
-no_more : (n : ℕ) (l : List ℕ) → supply false l ≡ taken n (supply false l)
+pub no_more : (n : ℕ) (l : List ℕ) → supply false l ≡ taken n (supply false l)
 unfolding taken
 no_more zero l = refl
 no_more (suc n) l = asked-none l ∙ ap asked (no_more n l)

@@ -72,10 +72,21 @@ fn ask_at(
         let below = height - 1;
         if is_table(d) {
             let at = TABLE_WORDS * table_page(d);
-            return ask_in(arena, first, image, q, below, e, at, TABLE_WORDS, false);
+            return ask_in(
+                arena,
+                first,
+                image,
+                q,
+                below,
+                e,
+                at,
+                TABLE_WORDS,
+                false,
+                true,
+            );
         }
         if ask_page(image) {
-            return ask_in(arena, first, image, q, below, e, 0, TABLE_WORDS, true);
+            return ask_in(arena, first, image, q, below, e, 0, TABLE_WORDS, true, true);
         }
         return false;
     }
@@ -94,10 +105,14 @@ pub fn ask_in(
     at: u64,
     count: u64,
     fresh: bool,
+    enough: bool,
 ) -> bool
     requires { (height ≤ 3) × (e + count * span height ≤ 2 ^ 50) × (at + count ≤ 2 ^ 50) }
-    ensures { supply result (is image) ≡ taken (wants_in q first arena.now fresh height e at count) (supply true (was image)) }
+    ensures { supply result (is image) ≡ taken (wants_in q first arena.now fresh height e at count) (supply enough (was image)) }
 {
+    if !enough {
+        return false;
+    }
     let bytes = span_of(height);
     for j in 0..count {
         let d = word_in(arena, first, fresh, at + j);

@@ -70,6 +70,7 @@ fn window_apart(
             top.height,
             top.word,
             top.entries,
+            true,
         );
     }
     false

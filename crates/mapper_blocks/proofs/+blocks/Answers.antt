@@ -58,8 +58,9 @@ block_in-block_at-requires t c =
 pub block_in-returns-then-block_at : goal.block_in-returns-then-block_at
 block_in-returns-then-block_at t c =
     let s = c.args in
-    one_blocks s.q s.first s.arena.now s.height s.e s.at c.loop-j.j s.count _ _ _
-    (stride _ _ c.requires.0 c.span_of-bytes.ensures) c.word_at-d.ensures c.loop-j-test.true c.block_at.ensures c.if-block_at.true
+    rw c.if-found.false
+    (one_blocks s.q s.first s.arena.now s.height s.e s.at c.loop-j.j s.count _ _ _
+    (stride _ _ c.requires.0 c.span_of-bytes.ensures) c.word_at-d.ensures c.loop-j-test.true c.block_at.ensures c.if-block_at.true)
 
 pub block_in-loop-j-preserved : goal.block_in-loop-j-preserved
 block_in-loop-j-preserved t c =
@@ -71,4 +72,4 @@ pub block_in-returns : goal.block_in-returns
 block_in-returns t c =
     let s = c.args in
     let end : c.loop-j.j ≡ s.count = let most = c.loop-j.auto.j-end in let least = c.loop-j-test.false in omega arith in
-    c.loop-j.invariant ∙ ap (blocked_in s.q s.first s.arena.now s.height s.e s.at) end
+    rw c.if-found.false (c.loop-j.invariant ∙ ap (blocked_in s.q s.first s.arena.now s.height s.e s.at) end)

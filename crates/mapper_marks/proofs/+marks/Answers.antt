@@ -42,12 +42,20 @@ mark_in-returns-then-not-mark_at t c =
     let s = c.args in
     let j = c.loop-j.j in
     let more = c.loop-j-test.true in
-    told_all s.limits s.first s.arena.now s.height s.at (run true s.left.now s.marks.now) (s.count - (j + 1)) (j + 1) s.count _ _ (omega arith)
+    rw c.if-not-fine.false
+    (told_all s.limits s.first s.arena.now s.height s.at (run true s.left.now s.marks.now) (s.count - (j + 1)) (j + 1) s.count _ _ (omega arith)
     (one_more s.limits s.first s.arena.now s.height s.at (run true s.left.now s.marks.now) j _ (run true c.loop-j.left c.loop-j.marks) _
-    c.word_at-d.ensures c.loop-j.invariant (rw c.if-not-mark_at.true at c.mark_at.ensures))
+    c.word_at-d.ensures c.loop-j.invariant (rw c.if-not-mark_at.true at c.mark_at.ensures)))
 
 pub mark_in-returns : goal.mark_in-returns
 mark_in-returns t c =
     let s = c.args in
     let end : c.loop-j.j ≡ s.count = let most = c.loop-j.auto.j-end in let least = c.loop-j-test.false in omega arith in
-    c.loop-j.invariant ∙ ap (λ (i : ℕ). meet_all s.limits (tables_in s.first s.arena.now s.height s.at i) (run true s.left.now s.marks.now)) end
+    rw c.if-not-fine.false
+    (c.loop-j.invariant ∙ ap (λ (i : ℕ). meet_all s.limits (tables_in s.first s.arena.now s.height s.at i) (run true s.left.now s.marks.now)) end)
+
+-- after one that is told, none is looked at
+pub mark_in-returns-then-not-fine : goal.mark_in-returns-then-not-fine
+mark_in-returns-then-not-fine t c =
+    let s = c.args in
+    rw c.if-not-fine.true (told-before s.limits (tables_in s.first s.arena.now s.height s.at s.count) s.left.now s.marks.now)

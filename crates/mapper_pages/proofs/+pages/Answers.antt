@@ -3,8 +3,8 @@ use mathlib.Core.Bool.{true}
 use Prim.Native.Nat.{◌+◌, ◌-◌}
 use native.Mathlib.Omega.{arith}
 use Rattle.mapper_blocks.proofs.Strides.{stride, entry-room, table-room, page-words}
-use Rattle.mapper_pages.specs.Pages.{supply}
-use Rattle.mapper_pages.proofs.Asking.{at-page, at-shut, at_table, at-fresh, at-wanting, none_yet, one_more, all-taken, refused_all}
+use Rattle.mapper_pages.specs.Pages.{supply, wants_in}
+use Rattle.mapper_pages.proofs.Asking.{at-page, at-shut, at_table, at-fresh, at-wanting, none_yet, one_more, no_more, all-taken, refused_all}
 use Rattle.mapper_pages.proofs.+pages.Goals as goal
 
 pub ask_at-returns-then-height-eq0 : goal.ask_at-returns-then-height-eq0
@@ -71,9 +71,10 @@ ask_in-returns-then-not-ask_at t c =
     let s = c.args in
     let j = c.loop-j.j in
     let more = c.loop-j-test.true in
-    refused_all s.q s.first s.arena.now s.fresh s.height s.e s.at (supply true s.image.now) (s.count - (j + 1)) (j + 1) s.count _ (omega arith)
+    rw c.if-not-enough.false
+    (refused_all s.q s.first s.arena.now s.fresh s.height s.e s.at (supply true s.image.now) (s.count - (j + 1)) (j + 1) s.count _ (omega arith)
     (one_more s.q s.first s.arena.now s.fresh s.height s.e s.at (supply true s.image.now) j _ _ (supply true c.loop-j.image)
-    (stride _ _ c.requires.0 c.span_of-bytes.ensures) c.word_in-d.ensures c.loop-j.invariant (rw c.if-not-ask_at.true at c.ask_at.ensures))
+    (stride _ _ c.requires.0 c.span_of-bytes.ensures) c.word_in-d.ensures c.loop-j.invariant (rw c.if-not-ask_at.true at c.ask_at.ensures)))
 
 pub ask_in-loop-j-preserved : goal.ask_in-loop-j-preserved
 ask_in-loop-j-preserved t c =
@@ -84,5 +85,12 @@ ask_in-loop-j-preserved t c =
 pub ask_in-returns : goal.ask_in-returns
 ask_in-returns t c =
     let s = c.args in
-    all-taken s.q s.first s.arena.now s.fresh s.height s.e s.at (supply true s.image.now) c.loop-j.j s.count c.loop-j.invariant
-    (let most = c.loop-j.auto.j-end in let least = c.loop-j-test.false in omega arith)
+    rw c.if-not-enough.false
+    (all-taken s.q s.first s.arena.now s.fresh s.height s.e s.at (supply true s.image.now) c.loop-j.j s.count c.loop-j.invariant
+    (let most = c.loop-j.auto.j-end in let least = c.loop-j-test.false in omega arith))
+
+-- after a refusal none is asked for
+pub ask_in-returns-then-not-enough : goal.ask_in-returns-then-not-enough
+ask_in-returns-then-not-enough t c =
+    let s = c.args in
+    rw c.if-not-enough.true (no_more (wants_in s.q s.first s.arena.now s.fresh s.height s.e s.at s.count) s.image.now)
