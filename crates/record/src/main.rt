@@ -152,8 +152,9 @@ fn tape_chunk(
 }
 
 // The input has ended: a line that no newline ends is recorded too.
-fn close(streams: Streams, t: Taping, carry: &[u8], out: &mut [u8])
+fn close(streams: Streams, t: Taping, carry: &[u8], out: &mut [u8]) -> Taping
     requires { Placed t carry.now out.old }
+    ensures { (result.held ≡ 0) × (result.at ≡ 0) }
 {
     let taped = tape_line(t.state, &carry[..t.held], out, t.at);
     let last = Taping {
@@ -162,7 +163,8 @@ fn close(streams: Streams, t: Taping, carry: &[u8], out: &mut [u8])
         from: 0,
         at: taped.at,
     };
-    let _ = flush(streams, last, out);
+    let emptied = Taping { at: 0, ..last };
+    flush(streams, last, out).unwrap_or(emptied)
 }
 
 // A chunk is read and recorded. None: the input has ended, or a read or a write has failed.
@@ -186,7 +188,7 @@ fn turn(
         return None;
     };
     if count == 0 {
-        close(streams, t, carry, out);
+        let _ = close(streams, t, carry, out);
         return None;
     }
     let fresh = Taping {
