@@ -32,7 +32,7 @@ fn hand_over(mut streams: Streams, r: Reading, count: usize, ended: bool, out: &
         b"failed: the answers cannot be written",
     );
     let (taken, failed) = match written {
-        Ok(()) => (r.at, false),
+        Ok(taken) => (taken, false),
         Err(unwritten) => (unwritten.taken, true),
     };
     Session {

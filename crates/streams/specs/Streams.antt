@@ -30,7 +30,7 @@ abbrev pub bytes_read : Result ℕ Unread → ℕ
 bytes_read (Ok n) = n
 bytes_read (Err e) = 0
 
--- the bytes that were taken of so many: all of them, unless a write failed
-abbrev pub bytes_written : Result Unit Unwritten → ℕ → ℕ
-bytes_written (Ok u) size = size
-bytes_written (Err e) size = e.taken
+-- the bytes that were taken
+abbrev pub bytes_written : Result ℕ Unwritten → ℕ
+bytes_written (Ok n) = n
+bytes_written (Err e) = e.taken

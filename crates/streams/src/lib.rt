@@ -2,7 +2,7 @@
 // and what failed is said on standard error, once, in a line that whoever runs the program turns into an exit status.
 #![tactic(auto)]
 
-ghost use Rattle.std.specs.Prelude.{◌≡◌, ◌<◌, ◌≤◌, ◌↔◌, IsTrue, Ok, IfErr, length, take};
+ghost use Rattle.std.specs.Prelude.{◌≡◌, ◌<◌, ◌≤◌, ◌↔◌, IsTrue, Ok, IfOk, IfErr, length, take};
 ghost use Rattle.std.specs.IoError.{error_kind};
 ghost use Rattle.std.specs.Io.KnownBytes.{Appends, Consumes, IsAtEnd};
 ghost use Rattle.streams.specs.Streams.{Moves, Puts, bytes_of, bytes_read, bytes_written};
@@ -122,9 +122,10 @@ pub fn write_all<W: Write, E: Write>(
     errors: &mut E,
     buf: &[u8],
     what: &[u8],
-) -> Result<(), Unwritten>
+) -> Result<usize, Unwritten>
+    ensures whole { IfOk result (λ n. n ≡ length buf.now) }
     ensures part { IfErr result (λ (e : Unwritten). e.taken < length buf.now) }
-    ensures taken { Appends (W.contents output.old) (W.contents output.new) (take (bytes_written result (length buf.now)) buf.now) }
+    ensures taken { Appends (W.contents output.old) (W.contents output.new) (take (bytes_written result) buf.now) }
 {
     let mut done = 0;
     let mut tries = u64::MAX;
@@ -139,5 +140,5 @@ pub fn write_all<W: Write, E: Write>(
         }
         tries -= 1;
     }
-    Ok(())
+    Ok(done)
 }
