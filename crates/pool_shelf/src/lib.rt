@@ -173,15 +173,17 @@ pub fn find_fit(
     ensures { (l : List Range) (prev : List ℕ) → Shelved pool l start.now end.now prev next.now heads.now → result ≡ hit_of (find (λ r. serves spare (fit size order r)) l) }
 {
     let own = size_to_page_order(size).0 as usize;
-    for head in &heads[own..] {
+    let mut hit = None;
+    'search: for head in &heads[own..] {
         let mut cur = RecordIndex(*head);
         while cur.0 != NONE {
             let fit = fit_at(start, end, cur, size, order);
             if can_be_served(fit, spare) {
-                return Some(cur);
+                hit = Some(cur);
+                break 'search;
             }
             cur = link_of(next, cur);
         }
     }
-    None
+    hit
 }
