@@ -50,19 +50,26 @@ fn entry_in(block: &[u8], kind: u64) -> Entry
     let x = word_at(block, 0);
     let y = word_at(block, 1);
     let z = word_at(block, 2);
+    // Each kind has a way out of its own: with one for all, the numbers are put together byte by byte behind it.
     match kind {
-        FREE => Entry {
-            request: Request::Free(Address(x), y),
-            answer: z,
-        },
-        ALLOCATE => Entry {
-            request: Request::Allocate(x, y),
-            answer: z,
-        },
-        _ => Entry {
-            request: Request::Reserve(Address(x), y, z),
-            answer: word_at(block, 3),
-        },
+        FREE => {
+            return Entry {
+                request: Request::Free(Address(x), y),
+                answer: z,
+            };
+        }
+        ALLOCATE => {
+            return Entry {
+                request: Request::Allocate(x, y),
+                answer: z,
+            };
+        }
+        _ => {
+            return Entry {
+                request: Request::Reserve(Address(x), y, z),
+                answer: word_at(block, 3),
+            };
+        }
     }
 }
 
