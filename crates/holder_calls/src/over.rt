@@ -111,7 +111,7 @@ fn serve_held(
     settled
 }
 
-// Eleven locals and the register are the whole of it: what reads, checks, serves and writes is lent them.
+// A local state, the figure beside it and the register are the whole of it: what reads, checks, serves and writes is lent them.
 pub fn serve_over(image: &mut [u8], request: HolderRequest) -> i64
     ensures { returned result (is image) ≡ call_over_lem current (requested request) (was image) }
 {

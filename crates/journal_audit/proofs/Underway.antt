@@ -91,7 +91,7 @@ module _ (n : ℕ) (small : n ≤ none) (l : List ℕ) (a : Auditing) where
     judged (suc k) enough g block.WrongLength h is = stays _ refl (ap (judged_by n (audit_from_lem n k l) at i b) (sym is) ∙ g)
 
   module _ (d : Audited) (g : Ongoing n l a d) (r : Audited) (e : r ≡ judged_by n (stands_at_lem n) d.used d.auditing.index (book_of n d.auditing.state) (block_at l d.used)) where
-    underway-next : Underway n l a r (ltb d.used r.used)
+    pub underway-next : Underway n l a r (ltb d.used r.used)
     underway-next =
         subst (λ (x : Audited). Underway n l a x (ltb d.used x.used)) (sym e)
         (judged d.used d.auditing.index (book_of n d.auditing.state) g.sound.book g.used g.index g.fuel g.enough g.same
